@@ -28,7 +28,7 @@ FFI = RUST / "ffi.rs"
 VERSION = TOP / "crates" / "tikeburo_c" / "src" / "version.rt"
 STRUCTS = {"Handle": "tk_handle", "ColorFields": "tk_color", "AttributeFields": "tk_attributes",
            "CellFields": "tk_cell", "ChangeFields": "tk_change", "FaultFields": "tk_fault",
-           "StateFields": "tk_settings", "RowCellFields": "tk_row_cell",
+           "TakenFields": "tk_taken", "StateFields": "tk_settings", "RowCellFields": "tk_row_cell",
            "RowCounts": "tk_row_counts", "ListCounts": "tk_list_counts", "HeadFields": "tk_head",
            "WidthRange": "tk_width_range"}
 PLAIN = {"usize": "size_t", "isize": "ptrdiff_t", "u8": "uint8_t", "u32": "uint32_t",
@@ -198,9 +198,12 @@ def numbers():
         # A client stops at each of these but the first, and at a size.
         for variant, number in re.findall(r"FaultKind::(\w+) => (\d+),", text) + [
                 ("Size", number) for number in re.findall(
-                    r"ClientError::Size \{ at \}\) => \{\s*\*fault = fields_at\((\d+),", text)]:
+                    r"ClientError::Size \{ at \} => \{\s*\*fault = fields_at\((\d+),", text)]:
             if variant != "Truncated":
                 found["FAULT_" + variant.upper()] = int(number)
+        for variant, number in re.findall(r"(None|Taken::\w+).* => TakenFields \{ kind: (\d+),",
+                                          text.replace("Some(", "")):
+            found["TAKEN_" + variant.removeprefix("Taken::").upper()] = int(number)
     return found
 
 

@@ -1,17 +1,23 @@
 /* Refuses one request for memory of the program that it is loaded before: the one whose number,
-   from 1, REFUSED names. At the end it tells on standard error how many requests there were, and
-   how many were refused. */
+   from 1, REFUSED names. At the end it writes on standard error how many requests there were, how
+   many were refused, and how many writes of standard output there were.
+
+   Where FAILS_READ is EIO or ENOMEM, reads of standard input fail by that behind its end. Where
+   FAILS_WRITE or FAILS_ERROR is a number, writes of standard output, or of standard error, fail
+   once there were so many. */
 #define _GNU_SOURCE
 #include <dlfcn.h>
 #include <errno.h>
 #include <stdio.h>
 #include <stdlib.h>
+#include <string.h>
 #include <unistd.h>
 
 static long requests = 0;
 static long refusals = 0;
 static long wanted = -1;
 static int looking = 0;
+static long writes[2];
 
 static int refuses(void) {
     if (wanted < 0) {
@@ -66,8 +72,37 @@ void *aligned_alloc(size_t alignment, size_t size) {
     return refuses() ? NULL : real(alignment, size);
 }
 
-__attribute__((destructor)) static void tell(void) {
-    char line[80];
-    int length = snprintf(line, sizeof line, "requests %ld refused %ld\n", requests, refusals);
-    if (write(STDERR_FILENO, line, length) < 0) _exit(3);
+ssize_t read(int file, void *bytes, size_t count) {
+    static ssize_t (*real)(int, void *, size_t);
+    if (!real) real = next("read");
+    ssize_t got = real(file, bytes, count);
+    const char *error = file == STDIN_FILENO && got == 0 ? getenv("FAILS_READ") : NULL;
+    if (!error) return got;
+    errno = strcmp(error, "ENOMEM") == 0 ? ENOMEM : EIO;
+    return -1;
+}
+
+static ssize_t really_write(int file, const void *bytes, size_t count) {
+    static ssize_t (*real)(int, const void *, size_t);
+    if (!real) real = next("write");
+    return real(file, bytes, count);
+}
+
+ssize_t write(int file, const void *bytes, size_t count) {
+    if (file == STDOUT_FILENO || file == STDERR_FILENO) {
+        const char *most = getenv(file == STDOUT_FILENO ? "FAILS_WRITE" : "FAILS_ERROR");
+        if (most && writes[file == STDERR_FILENO] >= atol(most)) {
+            errno = EIO;
+            return -1;
+        }
+        writes[file == STDERR_FILENO]++;
+    }
+    return really_write(file, bytes, count);
+}
+
+__attribute__((destructor)) static void report(void) {
+    char line[120];
+    int length = snprintf(line, sizeof line, "requests %ld refused %ld writes %ld\n", requests,
+                          refusals, writes[0]);
+    if (really_write(STDERR_FILENO, line, length) < 0) _exit(3);
 }

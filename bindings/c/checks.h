@@ -61,7 +61,8 @@ static inline bytes answer_to(tk_handle *surface, tk_handle *client) {
 
 static inline tk_status feed(tk_handle *client, const bytes *answer) {
     tk_fault fault;
-    return tk_client_feed(client, answer->at, answer->len, &fault);
+    size_t taken;
+    return tk_client_feed(client, answer->at, answer->len, &taken, &fault);
 }
 
 static inline tk_status print(tk_handle *surface, const char *text) {

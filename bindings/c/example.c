@@ -64,7 +64,7 @@ static size_t source_number(void) {
  * answer could go over any connection in between. */
 static tk_status deliver(tk_handle *surface, tk_handle *client, buffer *bytes) {
     uint8_t ask[20];
-    size_t ask_len;
+    size_t ask_len, taken;
     tk_fault fault;
     TRY(tk_client_ask(client, ask, sizeof ask, &ask_len));
     tk_status status = tk_respond(surface, ask, ask_len, bytes->at, bytes->room, &bytes->len);
@@ -73,7 +73,7 @@ static tk_status deliver(tk_handle *surface, tk_handle *client, buffer *bytes) {
         status = tk_respond(surface, ask, ask_len, bytes->at, bytes->room, &bytes->len);
     }
     TRY(status);
-    TRY(tk_client_feed(client, bytes->at, bytes->len, &fault));
+    TRY(tk_client_feed(client, bytes->at, bytes->len, &taken, &fault));
     printf("%zu bytes ask, %zu answer\n", ask_len, bytes->len);
     return TK_DONE;
 }

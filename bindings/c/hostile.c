@@ -56,8 +56,10 @@ static void read_head(const uint8_t *bytes, size_t len, tk_status fed, const tk_
 static tk_status feed(tk_handle *client, const uint8_t *bytes, size_t len) {
     tk_fault fault = {.kind = 99};
     EXPECT(tk_client_reset(client) == TK_DONE);
-    tk_status status = tk_client_feed(client, bytes, len, &fault);
+    size_t taken = len + 1;
+    tk_status status = tk_client_feed(client, bytes, len, &taken, &fault);
     EXPECT(status == TK_DONE ? fault.kind == 99 : fault.kind <= TK_FAULT_LIMIT && fault.at < len);
+    EXPECT(status == TK_DONE ? taken <= len : taken == len + 1);
     read_head(bytes, len, status, &fault);
     return status;
 }
@@ -160,15 +162,17 @@ static bool same_screens(tk_handle *a, tk_handle *b) {
 static void deliver(tk_handle *surface, tk_handle *client) {
     static uint8_t bytes[1 << 16];
     uint8_t ask[20];
-    size_t ask_len, len;
+    size_t ask_len, len, taken = 0;
     tk_fault fault;
     EXPECT(tk_client_reset(client) == TK_DONE);
     EXPECT(tk_client_ask(client, ask, sizeof ask, &ask_len) == TK_DONE);
     EXPECT(tk_respond(surface, ask, ask_len, bytes, sizeof bytes, &len) == TK_DONE);
     for (size_t fed = 0, piece; fed < len; fed += piece) {
         piece = 1 + below(len - fed);
-        EXPECT(tk_client_feed(client, bytes + fed, piece, &fault) == TK_DONE);
+        EXPECT(taken == 0);
+        EXPECT(tk_client_feed(client, bytes + fed, piece, &taken, &fault) == TK_DONE);
     }
+    EXPECT(taken == 1);
     EXPECT(same_screens(surface, client));
 }
 
@@ -318,6 +322,7 @@ static void freed_handles(void) {
     tk_fault fault;
     char text[4];
     uint8_t bytes[20];
+    tk_taken taken;
     size_t number = 0, len = 0;
     for (int round = 0; round < 3; round++) {
         EXPECT(tk_surface_new(&handle, 3, 3, TK_WIDTHS_UNICODE, 1) == TK_DONE);
@@ -331,7 +336,9 @@ static void freed_handles(void) {
         EXPECT(tk_resize(&handle, 2, 2) == TK_NO_HANDLE);
         EXPECT(tk_screen_text(&handle, text, sizeof text, &len) == TK_NO_HANDLE);
         EXPECT(tk_respond(&handle, bytes, 0, bytes, sizeof bytes, &len) == TK_NO_HANDLE);
-        EXPECT(tk_client_feed(&handle, bytes, 0, &fault) == TK_NO_HANDLE);
+        EXPECT(tk_client_feed(&handle, bytes, 0, &len, &fault) == TK_NO_HANDLE);
+        EXPECT(tk_client_keep(&handle, bytes, 0, &fault) == TK_NO_HANDLE);
+        EXPECT(tk_client_take_answer(&handle, &taken, &fault) == TK_NO_HANDLE);
         EXPECT(tk_client_ask(&handle, bytes, sizeof bytes, &len) == TK_NO_HANDLE);
         EXPECT(tk_client_reset(&handle) == TK_NO_HANDLE);
         EXPECT(tk_number(&handle, &number) == TK_NO_HANDLE);

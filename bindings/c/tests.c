@@ -395,7 +395,8 @@ static tk_status carry(tk_handle *surface, tk_handle *client, uint8_t *room, siz
         status = tk_client_ask(client, ask, sizeof ask, &ask_len);
     if (status == TK_DONE)
         status = tk_respond(surface, ask, ask_len, room, len, &len);
-    return status != TK_DONE ? status : tk_client_feed(client, room, len, fault);
+    size_t taken;
+    return status != TK_DONE ? status : tk_client_feed(client, room, len, &taken, fault);
 }
 
 static void test_carried_answers(void) {
@@ -481,8 +482,9 @@ static void check_fault(const char *wrong, size_t len, uint8_t kind, size_t at, 
                         size_t change) {
     tk_handle client = made_client();
     tk_fault fault = {.kind = 99};
-    tk_status status = tk_client_feed(&client, (const uint8_t *)wrong, len, &fault);
-    CHECK(status == TK_UNREADABLE);
+    size_t taken = 99;
+    tk_status status = tk_client_feed(&client, (const uint8_t *)wrong, len, &taken, &fault);
+    CHECK(status == TK_UNREADABLE && taken == 99);
     CHECK(fault.kind == kind && fault.at == at);
     CHECK(fault.has_change == has_change && fault.change == change);
     tk_free(&client);
@@ -504,10 +506,11 @@ static void test_faults(void) {
 static void test_clients(void) {
     tk_handle surface = made(6, 2), client = TK_NONE, viewer = TK_NONE, none = TK_NONE;
     tk_fault fault = {.kind = 99};
+    size_t taken = 99;
     CHECK(tk_client_new(&client, 2, 100, 100) == TK_RANGE && !client.is_live);
     CHECK(tk_client_new(&client, TK_WIDTHS_UNICODE, 100, 0) == TK_RANGE && !client.is_live);
     CHECK(tk_client_new(&client, TK_WIDTHS_UNICODE, 0, 1) == TK_DONE); /* it takes no answer */
-    CHECK(tk_client_feed(&client, (const uint8_t *)"\x87\2", 2, &fault) == TK_UNREADABLE);
+    CHECK(tk_client_feed(&client, (const uint8_t *)"\x87\2", 2, &taken, &fault) == TK_UNREADABLE);
     CHECK(fault.kind == TK_FAULT_LIMIT);
     CHECK(tk_client_new(&client, TK_WIDTHS_UNICODE, 0, 0) == TK_RANGE && client.is_live);
     CHECK(tk_client_new(&client, TK_WIDTHS_UNICODE, 11, TK_USUAL_BYTES) == TK_DONE);
@@ -515,28 +518,28 @@ static void test_clients(void) {
     CHECK(tk_viewer_new(&viewer, &surface) == TK_DONE);
     CHECK(print(&surface, "hello") == TK_DONE);
     bytes repaint = answer_to(&surface, &client);
-    CHECK(tk_client_feed(&client, repaint.at, repaint.len, &fault) == TK_UNREADABLE);
+    CHECK(tk_client_feed(&client, repaint.at, repaint.len, &taken, &fault) == TK_UNREADABLE);
     CHECK(fault.kind == TK_FAULT_LIMIT && fault.at == 4 && !fault.has_change);
     CHECK(tk_client_new(&client, TK_WIDTHS_UNICODE, 12, repaint.len - 1) == TK_DONE);
-    CHECK(tk_client_feed(&client, repaint.at, repaint.len, &fault) == TK_UNREADABLE);
+    CHECK(tk_client_feed(&client, repaint.at, repaint.len, &taken, &fault) == TK_UNREADABLE);
     CHECK(fault.kind == TK_FAULT_LIMIT && fault.at > 4);
     CHECK(tk_client_new(&client, TK_WIDTHS_UNICODE, 12, repaint.len) == TK_DONE);
     fault.kind = 99;
-    CHECK(tk_client_feed(&client, repaint.at, repaint.len - 1, &fault) == TK_DONE);
+    CHECK(tk_client_feed(&client, repaint.at, repaint.len - 1, &taken, &fault) == TK_DONE);
     CHECK(title_is(&client, "") && cursor_is(&client, 0, 0)); /* it isn't whole yet */
     CHECK(tk_client_reset(&client) == TK_DONE);
-    CHECK(tk_client_feed(&client, repaint.at, repaint.len, &fault) == TK_DONE);
+    CHECK(tk_client_feed(&client, repaint.at, repaint.len, &taken, &fault) == TK_DONE);
     CHECK(screen_is(&client, "hello\n\n") && fault.kind == 99);
     repaint.at[1] = 1;
-    CHECK(tk_client_feed(&client, repaint.at, repaint.len, &fault) == TK_UNREADABLE);
+    CHECK(tk_client_feed(&client, repaint.at, repaint.len, &taken, &fault) == TK_UNREADABLE);
     CHECK(fault.kind == TK_FAULT_VERSION && screen_is(&client, "hello\n\n"));
     CHECK(tk_client_reset(&client) == TK_DONE);
     CHECK(print(&surface, "!") == TK_DONE);
     bytes delta = answer_to(&surface, &client);
     CHECK(feed(&client, &delta) == TK_DONE && screen_is(&client, "hello!\n\n"));
-    CHECK(tk_client_feed(&surface, delta.at, delta.len, &fault) == TK_WRONG_KIND);
-    CHECK(tk_client_feed(&viewer, delta.at, delta.len, &fault) == TK_WRONG_KIND);
-    CHECK(tk_client_feed(&none, delta.at, delta.len, &fault) == TK_NO_HANDLE);
+    CHECK(tk_client_feed(&surface, delta.at, delta.len, &taken, &fault) == TK_WRONG_KIND);
+    CHECK(tk_client_feed(&viewer, delta.at, delta.len, &taken, &fault) == TK_WRONG_KIND);
+    CHECK(tk_client_feed(&none, delta.at, delta.len, &taken, &fault) == TK_NO_HANDLE);
     CHECK(tk_client_reset(&surface) == TK_WRONG_KIND && tk_client_reset(&none) == TK_NO_HANDLE);
     CHECK(tk_print(&client, "x", 1) == TK_WRONG_KIND);
     CHECK(tk_resize(&client, 2, 2) == TK_WRONG_KIND);
@@ -545,6 +548,55 @@ static void test_clients(void) {
     CHECK(tk_draw(&surface, &client, 0, 1) == TK_DONE && row_is(&surface, 1, "hello!"));
     CHECK(screen_is(&client, "hello!\n\n"));
     tk_free(&viewer);
+    tk_free(&client);
+    tk_free(&surface);
+}
+
+/* Takes the next answer of the bytes that the client keeps. */
+static tk_taken next_of(tk_handle *client) {
+    tk_taken taken = {.kind = 99, .at = 99};
+    tk_fault fault;
+    CHECK(tk_client_take_answer(client, &taken, &fault) == TK_DONE);
+    return taken;
+}
+
+static void test_answers_one_by_one(void) {
+    tk_handle surface = TK_NONE, client = made_client(), none = TK_NONE;
+    tk_fault fault = {.kind = 99};
+    tk_taken taken = {.kind = 99};
+    size_t count = 99;
+    CHECK(tk_surface_new(&surface, 6, 2, TK_WIDTHS_UNICODE, 1) == TK_DONE);
+    CHECK(print(&surface, "a") == TK_DONE);
+    bytes repaint = answer_to(&surface, &client);
+    CHECK(feed(&client, &repaint) == TK_DONE);
+    CHECK(print(&surface, "b") == TK_DONE);
+    bytes delta = answer_to(&surface, &client);
+    /* the delta twice, and a repaint that isn't whole yet */
+    CHECK(tk_client_keep(&client, delta.at, delta.len, &fault) == TK_DONE);
+    CHECK(tk_client_keep(&client, delta.at, delta.len, &fault) == TK_DONE);
+    CHECK(tk_client_keep(&client, repaint.at, repaint.len - 1, &fault) == TK_DONE);
+    CHECK(screen_is(&client, "a\n\n"));
+    taken = next_of(&client);
+    CHECK(taken.kind == TK_TAKEN_SHOWN && taken.at == 0 && screen_is(&client, "ab\n\n"));
+    taken = next_of(&client);
+    CHECK(taken.kind == TK_TAKEN_STALE && taken.at == 5 && screen_is(&client, "ab\n\n"));
+    taken = next_of(&client);
+    CHECK(taken.kind == TK_TAKEN_NONE && taken.at == 0);
+    /* the repaint's last byte, and a delta that leads on from it */
+    CHECK(tk_client_keep(&client, repaint.at + repaint.len - 1, 1, &fault) == TK_DONE);
+    CHECK(tk_client_feed(&client, delta.at, delta.len, &count, &fault) == TK_DONE && count == 2);
+    CHECK(screen_is(&client, "ab\n\n") && fault.kind == 99);
+    /* bytes that are no answer stop it, and it keeps none behind them */
+    CHECK(tk_client_keep(&client, (const uint8_t *)"\x80", 1, &fault) == TK_DONE);
+    CHECK(tk_client_take_answer(&client, &taken, &fault) == TK_UNREADABLE);
+    CHECK(fault.kind == TK_FAULT_TYPE && taken.kind == TK_TAKEN_NONE);
+    fault.kind = 99;
+    CHECK(tk_client_keep(&client, delta.at, delta.len, &fault) == TK_UNREADABLE);
+    CHECK(fault.kind == TK_FAULT_TYPE);
+    CHECK(tk_client_take_answer(&surface, &taken, &fault) == TK_WRONG_KIND);
+    CHECK(tk_client_take_answer(&none, &taken, &fault) == TK_NO_HANDLE);
+    CHECK(tk_client_keep(&surface, delta.at, delta.len, &fault) == TK_WRONG_KIND);
+    CHECK(tk_client_keep(&none, delta.at, delta.len, &fault) == TK_NO_HANDLE);
     tk_free(&client);
     tk_free(&surface);
 }
@@ -632,6 +684,7 @@ int main(void) {
     test_asks();
     test_faults();
     test_clients();
+    test_answers_one_by_one();
     test_follows();
     test_follows_others();
     test_repaints_are_full();

@@ -808,16 +808,38 @@ enum {
     TK_FAULT_LIMIT = 7    /* there are more cells or bytes than the client's limits */
 };
 
-/* Takes the next bytes of a stream of answers. Of each answer that is whole the client shows what
- * the surface showed when it gave it. An answer that is late, comes twice, or leads on from what
- * another surface showed changes nothing, and is no error.
+/* Takes the next bytes of a stream of answers, and writes how many answers are whole then. Of each
+ * the client shows what the surface showed when it gave it. An answer that is late, comes twice, or
+ * leads on from what another surface showed changes nothing, counts too, and is no error.
  *
- * After an error tk_client_reset begins another stream. The answers before the error are taken.
- * TK_UNREADABLE: *fault says what is wrong, and that answer has changed nothing. TK_NUMBERS: the
- * client shows what it showed, and asks for all. TK_MEMORY: either that answer has changed nothing,
- * or the client may show anything, and asks for all. After any other outcome *fault is as it was.
- * TK_WRONG_KIND. */
-tk_status tk_client_feed(tk_handle *client, const uint8_t *bytes, size_t len, tk_fault *fault);
+ * After an error tk_client_reset begins another stream. The answers before the error are taken, and
+ * *taken is as it was. TK_UNREADABLE: *fault says what is wrong, and that answer has changed
+ * nothing. TK_NUMBERS: the client shows what it showed, and asks for all. TK_MEMORY: either that
+ * answer has changed nothing, or the client may show anything, and asks for all. After any other
+ * outcome *fault is as it was. TK_WRONG_KIND. */
+tk_status tk_client_feed(tk_handle *client, const uint8_t *bytes, size_t len, size_t *taken,
+                         tk_fault *fault);
+
+/* Keeps the next bytes of a stream of answers, and takes none: tk_client_take_answer does. The
+ * errors are those of tk_client_feed; after TK_MEMORY it takes no more bytes, until
+ * tk_client_reset. */
+tk_status tk_client_keep(tk_handle *client, const uint8_t *bytes, size_t len, tk_fault *fault);
+
+/* What came of the next answer. */
+typedef struct tk_taken {
+    uint8_t kind; /* TK_TAKEN_NONE .. */
+    size_t at;    /* of a stale one, the byte where its source begins, or else its base */
+} tk_taken;
+enum {
+    TK_TAKEN_NONE = 0,  /* the bytes that the client keeps make no whole answer */
+    TK_TAKEN_SHOWN = 1, /* the client shows what the answer leads to */
+    TK_TAKEN_STALE = 2  /* it is late, comes twice or is another surface's, and changes nothing */
+};
+
+/* Takes the next answer of the bytes that the client keeps, and writes what came of it. A client
+ * that is fed by tk_client_keep, and by this until there is none, shows each screen in turn. The
+ * errors are those of tk_client_feed. */
+tk_status tk_client_take_answer(tk_handle *client, tk_taken *taken, tk_fault *fault);
 
 /* Writes what to ask for the next answer, 20 bytes at most. TK_WRONG_KIND, TK_SHORT. */
 tk_status tk_client_ask(tk_handle *client, uint8_t *bytes, size_t room, size_t *len);

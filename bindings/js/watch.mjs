@@ -1,7 +1,7 @@
 #!/usr/bin/env node
 // watch.mjs [-a] [--cells N] [--bytes N] reads a stream of answers and prints what its viewer shows
-// after the last one, or with -a after each, as `surfwatch` does. A fault ends it with status 2,
-// and a failed write with 3.
+// after the last one, or with -a after each, as `surfwatch` does. A stale answer is reported, and a
+// fault ends it, each with status 2; a failed write ends it with 3.
 import { readSync, writeSync } from 'node:fs';
 import { parseArgs } from 'node:util';
 import { Client } from './tikeburo.mjs';
@@ -16,7 +16,8 @@ function optionsOf(args) {
     try {
         const { all, ...limits } = parseArgs({ args, options }).values;
         const numbers = Object.entries(limits).map(([name, word]) => [name, Number(word)]);
-        const right = numbers.every(([, number]) => Number.isSafeInteger(number) && number >= 0);
+        const right = numbers.every(([name, number]) =>
+            Number.isSafeInteger(number) && number >= (name === 'bytes' ? 1 : 0));
         return right ? { all, limits: Object.fromEntries(numbers) } : null;
     } catch {
         return null;
@@ -42,10 +43,10 @@ function read(chunk) {
     }
 }
 
-/** Feeds the input to a client until `isDone()`, or to its end. */
-function feedInput(client, isDone) {
+/** Feeds the input to a client, to its end or to a fault. */
+function feedInput(client) {
     const chunk = Buffer.alloc(65536);
-    while (!isDone()) {
+    while (!client.fault) {
         const length = read(chunk);
         if (length === 0) return client.end();
         client.feed(chunk.subarray(0, length));
@@ -53,27 +54,37 @@ function feedInput(client, isDone) {
     return client.fault;
 }
 
+/** Reports what is wrong with an answer. */
+function report(fault) {
+    write(2, `answer ${fault.answer}: ${fault.message}\n`);
+}
+
+/** The exit status. */
 function watch({ all, limits }) {
-    let shown = '', stale = null;
+    let shown = '', status = 0;
     const client = new Client({
         ...limits,
-        onstale: fault => { stale ??= fault; },
+        onstale: fault => {
+            status = 2;
+            report(fault);
+        },
         onanswer: ({ screen }) => {
-            if (stale) return;
             if (all) write(1, String(screen));
             else shown = String(screen);
         },
     });
-    const fault = feedInput(client, () => stale || client.fault);
+    const fault = feedInput(client);
     write(1, shown);
-    return stale ?? fault;
+    if (fault) {
+        status = 2;
+        report(fault);
+    }
+    return status;
 }
 
 const options = optionsOf(process.argv.slice(2));
 if (options) {
-    const fault = watch(options);
-    if (fault) write(2, `answer ${fault.answer}: ${fault.message}\n`);
-    process.exitCode = fault ? 2 : 0;
+    process.exitCode = watch(options);
 } else {
     write(2, `${USAGE}\n`);
     process.exitCode = 2;

@@ -152,7 +152,9 @@ test('watch.mjs', () => {
     assert.deepEqual(watch(join(first, second)), [two, '', 0]);
     assert.deepEqual(watch(join(first, second), '-a'), [one + two, '', 0]);
     const stale = 'answer 3: stale at 5\n';
-    assert.deepEqual(watch(join(first, second, second, first), '-a'), [one + two, stale, 2]);
+    const late = join(first, second, second, first);
+    assert.deepEqual(watch(late, '-a'), [one + two + one, stale, 2]);
+    assert.deepEqual(watch(late), [one, stale, 2]);
     const cut = 'answer 2: truncated at 10 in change 0\n';
     assert.deepEqual(watch(join(first, second.subarray(0, 12))), [one, cut, 2]);
     assert.deepEqual(watch(first, '--cells', '3'), ['', 'answer 1: limit at 4\n', 2]);
@@ -162,7 +164,7 @@ test('watch.mjs', () => {
     const folder = spawnSync('sh', ['-c', '"$@" </', 'sh', process.execPath, program]);
     assert.deepEqual([String(folder.stderr), folder.status], ['input: unreadable\n', 2]);
     const usage = 'usage: watch.mjs [-a] [--cells N] [--bytes N]\n';
-    for (const words of [['-b'], ['x'], ['--cells'], ['--cells', 'x'], ['--bytes', '-1']]) {
+    for (const words of [['-b'], ['x'], ['--cells'], ['--cells', 'x'], ['--bytes', '-1'], ['--bytes', '0']]) {
         assert.deepEqual(watch('', ...words), ['', usage, 2]);
     }
 });

@@ -35,20 +35,18 @@ function randomScript(random) {
     return { words: [size(), size()], script: `${lines.join('\n')}\nsend\n` };
 }
 
-/** What the client shows of a stream, in random parts, and its fault as the programs print it. */
+/** What the client shows of a stream, in random parts, and its faults as the programs print them. */
 function shown(random, bytes) {
-    let text = '', stale = null;
-    const client = new Client({
-        onstale: fault => { stale ??= fault; },
-        onanswer: ({ screen }) => { text += stale ? '' : screen; },
-    });
+    let text = '', faults = '';
+    const report = fault => { faults += `answer ${fault.answer}: ${fault.message}\n`; };
+    const client = new Client({ onstale: report, onanswer: ({ screen }) => { text += screen; } });
     for (let at = 0; at < bytes.length;) {
         const length = 1 + random(40);
         client.feed(bytes.subarray(at, at + length));
         at += length;
     }
-    const fault = stale ?? client.end();
-    return text + (fault ? `answer ${fault.answer}: ${fault.message}\n` : '');
+    if (client.end()) report(client.fault);
+    return text + faults;
 }
 
 function run(program, words, input) {

@@ -30,7 +30,8 @@ fn own(requests: Receiver<Request>) -> Result<(), tikeburo::Error> {
 fn update(client: &mut Client, owner: &Sender<Request>) -> Result<(), Box<dyn Error>> {
     let (reply, answer) = channel();
     owner.send(Request::Respond(client.ask()?, reply))?;
-    Ok(client.feed(&answer.recv()??)?)
+    client.feed(&answer.recv()??)?;
+    Ok(())
 }
 
 fn main() -> Result<(), Box<dyn Error>> {

@@ -2,7 +2,7 @@
 
 use crate::error::Error;
 use crate::fault::Fault;
-use crate::ffi::{self, tk_fault};
+use crate::ffi::{self, tk_fault, tk_taken};
 use crate::handle::{self, Handle};
 use crate::head::{self, ARRAY, UNSIGNED};
 use crate::screen::Screen;
@@ -116,6 +116,20 @@ impl Default for Limits {
     }
 }
 
+/// What came of an answer that a [`Client`] took.
+#[derive(Clone, Copy, PartialEq, Eq, Hash, Debug)]
+pub enum Taken {
+    /// The client shows what the answer leads to.
+    Shown,
+    /// The answer is late, comes twice, or leads on from what another surface showed, and changed
+    /// nothing.
+    Stale {
+        /// The byte where its source begins, or where that is the one shown its base, counted from
+        /// the answer's first byte.
+        at: usize,
+    },
+}
+
 /// Shows what a surface of any process showed when it gave the answer that was fed last.
 ///
 /// ```
@@ -168,9 +182,10 @@ impl Client {
         Ok(Client { screen })
     }
 
-    /// Takes the next bytes of a stream of answers, in whatever chunks they come. Of an answer that
-    /// is whole it shows what the surface showed when it gave it. An answer that is late, comes
-    /// twice, or leads on from what another surface showed changes nothing, and is no error.
+    /// Takes the next bytes of a stream of answers, in whatever chunks they come, and returns how
+    /// many answers are whole then. Of each it shows what the surface showed when it gave it. An
+    /// answer that is late, comes twice, or leads on from what another surface showed changes
+    /// nothing, counts too, and is no error.
     ///
     /// # Errors
     ///
@@ -178,13 +193,70 @@ impl Client {
     /// taken. [`Error::Fault`]: the answer that has it has changed nothing. [`Error::Numbers`]: the
     /// client shows what it showed, and asks for the whole screen. [`Error::Memory`]: either that
     /// answer has changed nothing, or the client may show anything, and asks for the whole screen.
-    pub fn feed(&mut self, bytes: &[u8]) -> Result<(), Error> {
-        let handle = self.screen.handle.get();
-        let mut fault = tk_fault::default();
+    pub fn feed(&mut self, bytes: &[u8]) -> Result<usize, Error> {
+        let (len, mut taken) = (bytes.len(), 0);
+        // Safety: the handle is live, the bytes are only read, and the others alone are written.
+        self.call(|handle, fault| unsafe {
+            ffi::tk_client_feed(handle, bytes.as_ptr(), len, &mut taken, fault)
+        })?;
+        Ok(taken)
+    }
+
+    /// Keeps the next bytes of a stream of answers, and takes none: [`Client::take_answer`] does.
+    ///
+    /// # Errors
+    ///
+    /// Those of [`Client::feed`]. After [`Error::Memory`] it takes no more bytes, until
+    /// [`Client::reset`].
+    pub fn keep(&mut self, bytes: &[u8]) -> Result<(), Error> {
         // Safety: the handle is live, the bytes are only read, and the fault alone is written.
-        let status =
-            unsafe { ffi::tk_client_feed(handle, bytes.as_ptr(), bytes.len(), &mut fault) };
-        match Error::check(status) {
+        self.call(|handle, fault| unsafe {
+            ffi::tk_client_keep(handle, bytes.as_ptr(), bytes.len(), fault)
+        })
+    }
+
+    /// Takes the next answer of the bytes that it keeps, or returns `None` where they make no whole
+    /// one. So each screen of a stream can be shown:
+    ///
+    /// ```
+    /// # use tikeburo::{Client, Error, Surface, Taken};
+    /// # let mut surface = Surface::new(8, 2)?;
+    /// # let mut client = Client::new()?;
+    /// # surface.add_change("one")?;
+    /// # let bytes = surface.respond(&client.ask()?)?;
+    /// client.keep(&bytes)?;
+    /// while let Some(taken) = client.take_answer()? {
+    ///     match taken {
+    ///         Taken::Shown => println!("{}", client.screen().row(0).text()?),
+    ///         Taken::Stale { at } => println!("stale at {at}"),
+    ///     }
+    /// }
+    /// # Ok::<(), Error>(())
+    /// ```
+    ///
+    /// # Errors
+    ///
+    /// Those of [`Client::feed`].
+    pub fn take_answer(&mut self) -> Result<Option<Taken>, Error> {
+        let mut taken = tk_taken::default();
+        // Safety: the handle is live, and the others alone are written.
+        self.call(|handle, fault| unsafe {
+            ffi::tk_client_take_answer(handle, &mut taken, fault)
+        })?;
+        Ok(match taken.kind {
+            0 => None,
+            1 => Some(Taken::Shown),
+            _ => Some(Taken::Stale { at: taken.at }),
+        })
+    }
+
+    /// Makes a call that may find a fault in bytes.
+    fn call(
+        &mut self,
+        call: impl FnOnce(*mut ffi::tk_handle, &mut tk_fault) -> i32,
+    ) -> Result<(), Error> {
+        let mut fault = tk_fault::default();
+        match Error::check(call(self.screen.handle.get(), &mut fault)) {
             Err(Error::Unreadable) => Err(Error::Fault(Fault::from(fault))),
             outcome => outcome,
         }

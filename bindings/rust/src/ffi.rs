@@ -119,6 +119,13 @@ pub struct tk_fault {
 
 #[repr(C)]
 #[derive(Clone, Copy, Default)]
+pub struct tk_taken {
+    pub kind: u8,
+    pub at: usize,
+}
+
+#[repr(C)]
+#[derive(Clone, Copy, Default)]
 pub struct tk_row_cell {
     pub begin: usize,
     pub len: usize,
@@ -407,6 +414,18 @@ extern "C" {
         client: *mut tk_handle,
         bytes: *const u8,
         len: usize,
+        taken: *mut usize,
+        fault: *mut tk_fault,
+    ) -> i32;
+    pub fn tk_client_keep(
+        client: *mut tk_handle,
+        bytes: *const u8,
+        len: usize,
+        fault: *mut tk_fault,
+    ) -> i32;
+    pub fn tk_client_take_answer(
+        client: *mut tk_handle,
+        taken: *mut tk_taken,
         fault: *mut tk_fault,
     ) -> i32;
     pub fn tk_client_ask(
@@ -433,6 +452,7 @@ mod tests {
         assert_eq!(size_of::<tk_change>(), 56);
         assert_eq!(size_of::<tk_settings>(), 56);
         assert_eq!(size_of::<tk_fault>(), 24);
+        assert_eq!(size_of::<tk_taken>(), 16);
         assert_eq!(size_of::<tk_row_cell>(), 32);
         assert_eq!(size_of::<tk_row_counts>(), 24);
         assert_eq!(size_of::<tk_list_counts>(), 24);

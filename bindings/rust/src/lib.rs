@@ -103,7 +103,7 @@ pub use change::{
     Change, CursorShape, CursorVisibility, LineAttribute, Position, SequenceNo, SEQ_ZERO,
 };
 pub use changes::Changes;
-pub use client::{Ask, Client, Limits};
+pub use client::{Ask, Client, Limits, Taken};
 #[doc(inline)]
 pub use color::{ColorAttribute, PaletteIndex, RgbColor};
 pub use error::Error;

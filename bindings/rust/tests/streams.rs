@@ -2,7 +2,7 @@
 
 use std::thread;
 use tikeburo::{AnswerHead, Ask, Cell, Change, Client, Error, FaultKind, Limits, Options};
-use tikeburo::{Screen, Surface, Viewer, Widths};
+use tikeburo::{Screen, Surface, Taken, Viewer, Widths};
 
 /// All that is seen of a screen.
 fn seen(screen: &Screen) -> (Vec<Vec<Cell>>, (usize, usize), String) {
@@ -34,7 +34,7 @@ fn answer(surface: &mut Surface, client: &Client) -> Vec<u8> {
 }
 
 /// The fault of bytes that a client is fed: its kind, its place and its change.
-fn fault(outcome: Result<(), Error>) -> (FaultKind, usize, Option<usize>) {
+fn fault(outcome: Result<usize, Error>) -> (FaultKind, usize, Option<usize>) {
     match outcome {
         Err(Error::Fault(fault)) => (fault.kind, fault.at, fault.change),
         other => panic!("{other:?}"),
@@ -60,12 +60,38 @@ fn answers_come_in_any_pieces() {
     let repaint = answer(&mut surface, &client);
     let (last, front) = repaint.split_last().unwrap();
     for byte in front {
-        client.feed(&[*byte]).unwrap();
+        assert_eq!(client.feed(&[*byte]), Ok(0));
     }
     assert_eq!(client.screen().title().unwrap(), "");
     let both = [&[*last][..], &repaint, &[]].concat(); // and again, which changes nothing
-    client.feed(&both).unwrap();
+    assert_eq!(client.feed(&both), Ok(2));
     assert_eq!(seen(client.screen()), seen(&surface));
+}
+
+#[test]
+fn answers_are_taken_one_by_one() {
+    let (mut surface, mut client) = pair();
+    let repaint = answer(&mut surface, &client);
+    client.feed(&repaint).unwrap();
+    surface.add_change("!").unwrap();
+    let delta = answer(&mut surface, &client);
+    client
+        .keep(&[&delta[..], &delta, &repaint[..9]].concat())
+        .unwrap();
+    assert_ne!(seen(client.screen()), seen(&surface));
+    assert_eq!(client.take_answer(), Ok(Some(Taken::Shown)));
+    assert_eq!(seen(client.screen()), seen(&surface));
+    // It comes again: what is shown has another number than its base.
+    assert!(matches!(
+        client.take_answer(),
+        Ok(Some(Taken::Stale { at: 5.. }))
+    ));
+    assert_eq!(client.take_answer(), Ok(None));
+    client.reset();
+    client.keep(&[0x80]).unwrap();
+    let found = fault(client.take_answer().map(|_| 0));
+    assert_eq!(found, (FaultKind::Type, 0, None));
+    assert!(client.keep(&delta).is_err());
 }
 
 #[test]
@@ -156,7 +182,7 @@ fn faults_have_their_places() {
     let found = fault(client.feed(&wrong));
     assert_eq!(found, (FaultKind::Version, 1, None));
     client.reset();
-    assert_eq!(client.feed(&repaint), Ok(()));
+    assert_eq!(client.feed(&repaint), Ok(1));
     let found = fault(client.feed(&[0x80]));
     assert_eq!(found, (FaultKind::Type, 0, None));
     client.reset();
@@ -190,7 +216,7 @@ fn limits_are_kept() {
         let limits = Limits::new().cells(cells).bytes(bytes);
         client = Client::with_limits(Widths::Unicode, limits).unwrap();
         match client.feed(&repaint) {
-            Ok(()) => assert!(is_taken),
+            Ok(taken) => assert_eq!(taken, usize::from(is_taken)),
             Err(Error::Fault(fault)) => assert!(!is_taken && fault.kind == FaultKind::Limit),
             Err(error) => panic!("{error}"),
         }

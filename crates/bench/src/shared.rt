@@ -65,6 +65,6 @@ pub fn typed(alloc: Global, count: u32) -> Result<usize, SurfaceError> {
     Ok(client.number())
 }
 
-fn feed(client: &mut Client<UnicodeWidths>, bytes: &[u8]) -> Result<(), SurfaceError> {
+fn feed(client: &mut Client<UnicodeWidths>, bytes: &[u8]) -> Result<usize, SurfaceError> {
     client.feed(bytes).map_err(|_| SurfaceError::Memory)
 }

@@ -70,7 +70,7 @@ impl Followed {
             Err(WireError::Memory) => Err(PlayError::Memory),
             Err(WireError::Fault(fault)) => {
                 let wanted = match fault.kind {
-                    FaultKind::Truncated => Ok(()),
+                    FaultKind::Truncated => Ok(0),
                     _ => Err(ClientError::Fault(fault)),
                 };
                 self.shows(&self.before)?;

@@ -1,10 +1,10 @@
 -- What a source answers, from what its surface gives.
-use Rattle.std.proofs.Common.{◌≡◌, ◌⊎◌, ℕ, ◌-◌, ◌^◌, ◌<◌, ◌≤◌, true, false, List, [], ◌++◌, length, length-append, Result, Ok, Err, refl, sym, ap, subst, ◌∙◌, arith, inl, inr}
+use Rattle.std.proofs.Common.{◌≡◌, ◌⊎◌, ℕ, ◌-◌, ◌^◌, ◌<◌, ◌≤◌, ◌&&◌, Bool, nat_le, if◌then◌else◌, le-leb, ne_eqb, ap₂, true, false, List, [], ◌++◌, length, length-append, Result, Ok, Err, refl, sym, ap, subst, ◌∙◌, arith, inl, inr}
 use Rattle.std.specs.Prelude.{IfOk, OnErr, min, max}
 use Rattle.std.proofs.lemmas.List.{append-nil}
 use Rattle.cbor.specs.Encoding.{Extends}
 use Rattle.std.proofs.Math.Nat.{le-max_left, le-max_right}
-use Rattle.std.proofs.lemmas.Bool.{cases_Bool, eqb-true, eq-eqb, true≢false}
+use Rattle.std.proofs.lemmas.Bool.{cases_Bool, eqb-true, eq-eqb, lt-leb, true≢false}
 use Rattle.termwiz_cell.specs.ChangeValue.{ChangeValue}
 use Rattle.termwiz_screen.specs.FullScreen.{HasFullSize}
 use Rattle.termwiz_screen.specs.Log.{delta_limit, due, next_number}
@@ -18,74 +18,143 @@ use Rattle.termwiz_surface.proofs.Remembering.{given-carries}
 use Rattle.termwiz_wire.specs.Lengths.{capped}
 use Rattle.termwiz_wire.specs.Sent.{IsSent, answer}
 use Rattle.termwiz_wire.specs.declared.sent.Ask.{Ask}
-use Rattle.termwiz_share.specs.Source.{Answers, IsResponse, Responds, SourceValue, most_bytes, repaint_of, sent_by, trimmed}
+use Rattle.termwiz_share.specs.Source.{Answers, IsResponse, Responds, SourceValue, bytes_of, delta_of, given_for, most_bytes, number_asked, repaint_of, response_bytes, sent_by, trimmed}
 
 abbrev with_base : AnswerValue → ℕ → AnswerValue
 with_base a b = record a { base = b }
 
-same_answer : (a : AnswerValue) (w h n : ℕ) (cs : List ChangeValue) → a.width ≡ w → a.height ≡ h → a.base ≡ 0 → a.number ≡ n → a.changes ≡ cs → a ≡ record { width = w; height = h; base = 0; number = n; changes = cs }
-same_answer a w h n cs p q r s t = rw (← p, ← q, ← s, ← t) (ap (with_base a) r)
+same_answer : (a : AnswerValue) (w h b n : ℕ) (cs : List ChangeValue) → a.width ≡ w → a.height ≡ h → a.base ≡ b → a.number ≡ n → a.changes ≡ cs → a ≡ record { width = w; height = h; base = b; number = n; changes = cs }
+same_answer a w h b n cs p q r s t = rw (← p, ← q, ← s, ← t) (ap (with_base a) r)
 
 -- number 0 is not known
 none_known : {W : Type 0} (s : SurfaceValue W) (n : ℕ) → n ≡ 0 → knows s n ≡ false
 none_known s n z = rw z refl
 
+-- what is given for a number, as it is known and as its delta has few bytes
+abbrev chosen : Bool → Bool → AnswerValue → AnswerValue → AnswerValue
+chosen known few delta repaint = if known && few then delta else repaint
+
+module _ {W : Type 0} (f : W → List ℕ → ℕ) (s : SourceValue W) (n : ℕ) where
+  abbrev delta : AnswerValue
+  delta = delta_of s.surface n
+
+  abbrev len : ℕ
+  len = length (bytes_of f s delta)
+
+  abbrev few_bytes : ℕ
+  few_bytes = most_bytes s.surface.width s.surface.height
+
+  for_short : knows s.surface n ≡ true → len ≤ few_bytes → given_for f s n ≡ delta
+  for_short known few = ap₂ (λ (k l : Bool). chosen k l delta (repaint_of s.surface)) known (le-leb len few_bytes few)
+
+  for_long : knows s.surface n ≡ true → few_bytes < len → given_for f s n ≡ repaint_of s.surface
+  for_long known long = ap₂ (λ (k l : Bool). chosen k l delta (repaint_of s.surface)) known (lt-leb len few_bytes long)
+
+  for_unknown : knows s.surface n ≡ false → given_for f s n ≡ repaint_of s.surface
+  for_unknown un = ap (λ (k : Bool). chosen k (nat_le len few_bytes) delta (repaint_of s.surface)) un
+
 module _ {W : Type 0} (f : W → List ℕ → ℕ) (s : SourceValue W) (n : ℕ) (given : AnswerValue) (is : IsGivenBy full_screens f s.surface n given) (sized : HasFullSize s.surface.width s.surface.height (full_of s.surface)) where
-  abbrev bytes_of : AnswerValue → ℕ
-  bytes_of a = length (answer (f s.surface.widths) (sent_by s.number a))
+  abbrev size_of : AnswerValue → ℕ
+  size_of a = length (bytes_of f s a)
 
   abbrev most : ℕ
-  most = max (most_bytes s.surface.width s.surface.height) (bytes_of (repaint_of s.surface))
+  most = max (most_bytes s.surface.width s.surface.height) (size_of (repaint_of s.surface))
 
-  made : (bytes_of given < 2 ^ 64 → bytes_of given ≤ most) → Answers f s n given
-  made few = record { asked = n; from = inr refl; is_given = is; sized = sized; few = few }
+  made : (size_of given < 2 ^ 64 → size_of given ≤ most) → (size_of given < 2 ^ 64 → given ≡ given_for f s n) → Answers f s n given
+  made few for = record { asked = n; from = inr refl; is_given = is; sized = sized; few = few; chosen = for }
+
+  -- what is due is a delta where the number is known
+  is_delta : knows s.surface n ≡ true → given ≡ delta_of s.surface n
+  is_delta known = same_answer given s.surface.width s.surface.height n (next_number s.surface.log) (due s.surface.log n) is.width is.height (is.delta known).0 is.number (is.delta known).1
+
+  -- and it is known where the answer is no repaint
+  known_base : is_repaint given ≡ false → knows s.surface n ≡ true
+  known_base e = elim (cases_Bool (knows s.surface n)) [
+    | inl known ↦ known
+    | inr un ↦ absurd (true≢false (sym (eq-eqb given.base 0 (is.repaint un).0) ∙ e))
+  ]
 
   -- a short answer,
-  pub answers_short : capped (bytes_of given) ≤ min (most_bytes s.surface.width s.surface.height) (2 ^ 64 - 1) → Answers f s n given
-  answers_short few = made (λ fits. short fits)
+  pub answers_short : is_repaint given ≡ false → capped (size_of given) ≤ min (most_bytes s.surface.width s.surface.height) (2 ^ 64 - 1) → Answers f s n given
+  answers_short e few = made (λ fits. short fits) (λ fits. is_delta known ∙ sym (for_short f s n known (subst (λ (a : AnswerValue). size_of a ≤ most_bytes s.surface.width s.surface.height) (is_delta known) (omega (arith, few, fits)))))
     where
-      short : bytes_of given < 2 ^ 64 → bytes_of given ≤ most
-      short fits = omega (arith, few, fits, le-max_left (most_bytes s.surface.width s.surface.height) (bytes_of (repaint_of s.surface)))
+      known : knows s.surface n ≡ true
+      known = known_base e
+
+      short : size_of given < 2 ^ 64 → size_of given ≤ most
+      short fits = omega (arith, few, fits, le-max_left (most_bytes s.surface.width s.surface.height) (size_of (repaint_of s.surface)))
+
+  -- one that has too many bytes gives way to the repaint
+  pub long_delta : is_repaint given ≡ false → min (most_bytes s.surface.width s.surface.height) (2 ^ 64 - 1) < capped (size_of given) → given_for f s n ≡ repaint_of s.surface
+  long_delta e long = for_long f s n (known_base e) (subst (λ (a : AnswerValue). most_bytes s.surface.width s.surface.height < size_of a) (is_delta (known_base e)) (omega (arith, long)))
 
   module _ (entries : knows s.surface n ≡ false → given.changes ≡ own_repaint s.surface) where
     -- a repaint is the one that is due
     zero_base : given.base ≡ 0 → given ≡ repaint_of s.surface
     zero_base z = elim (cases_Bool (knows s.surface n)) [
       | inl known ↦ absurd (true≢false (sym known ∙ none_known s.surface n (sym (is.delta known).0 ∙ z)))
-      | inr un ↦ same_answer given s.surface.width s.surface.height (next_number s.surface.log) (own_repaint s.surface) is.width is.height (is.repaint un).0 is.number (entries un)
+      | inr un ↦ same_answer given s.surface.width s.surface.height 0 (next_number s.surface.log) (own_repaint s.surface) is.width is.height (is.repaint un).0 is.number (entries un)
     ]
 
     -- and a repaint
     pub answers_repaint : is_repaint given ≡ true → Answers f s n given
-    answers_repaint e = made (λ fits. rw (zero_base (eqb-true given.base 0 e)) (le-max_right (most_bytes s.surface.width s.surface.height) (bytes_of (repaint_of s.surface))))
+    answers_repaint e = made (λ fits. rw is_repaint_of (le-max_right (most_bytes s.surface.width s.surface.height) (size_of (repaint_of s.surface)))) (λ fits. is_repaint_of ∙ sym (for_unknown f s n unknown))
+      where
+        is_repaint_of : given ≡ repaint_of s.surface
+        is_repaint_of = zero_base (eqb-true given.base 0 e)
+
+        unknown : knows s.surface n ≡ false
+        unknown = elim (cases_Bool (knows s.surface n)) [
+          | inr un ↦ un
+          | inl known ↦ none_known s.surface n (sym (is.delta known).0 ∙ eqb-true given.base 0 e)
+        ]
 
 module _ {W : Type 0} (f : W → List ℕ → ℕ) (s : SourceValue W) (n : ℕ) (sized : HasFullSize s.surface.width s.surface.height (full_of s.surface)) where
-  -- what is given for no number answers each
-  answers_zero : (given : AnswerValue) → IsGivenBy full_screens f s.surface 0 given → (knows s.surface 0 ≡ false → given.changes ≡ own_repaint s.surface) → Answers f s n given
-  answers_zero given is entries = let all = answers_repaint f s 0 given is sized entries (eq-eqb given.base 0 (is.repaint refl).0) in
-      record { asked = 0; from = inl refl; is_given = is; sized = sized; few = all.few }
+  -- what is given for no number answers each one whose delta has too many bytes
+  answers_zero : given_for f s n ≡ repaint_of s.surface → (given : AnswerValue) → IsGivenBy full_screens f s.surface 0 given → (knows s.surface 0 ≡ false → given.changes ≡ own_repaint s.surface) → Answers f s n given
+  answers_zero long given is entries = let all = answers_repaint f s 0 given is sized entries (eq-eqb given.base 0 (is.repaint refl).0) in
+      record { asked = 0; from = inl refl; is_given = is; sized = sized; few = all.few; chosen = λ fits. all.chosen fits ∙ sym long }
 
-  pub answers_none : {E : Type 0} (r : Result AnswerValue E) → IfOk r (λ given. IsGivenBy full_screens f s.surface 0 given) → (knows s.surface 0 ≡ false → IfOk r (λ given. given.changes ≡ own_repaint s.surface)) → IfOk r (λ given. Answers f s n given)
-  answers_none (Ok given) is entries = answers_zero given is entries
-  answers_none (Err e) is entries = tt
+  pub answers_none : given_for f s n ≡ repaint_of s.surface → {E : Type 0} (r : Result AnswerValue E) → IfOk r (λ given. IsGivenBy full_screens f s.surface 0 given) → (knows s.surface 0 ≡ false → IfOk r (λ given. given.changes ≡ own_repaint s.surface)) → IfOk r (λ given. Answers f s n given)
+  answers_none long (Ok given) is entries = answers_zero long given is entries
+  answers_none long (Err e) is entries = tt
 
 -- the source knows the same numbers without the changes that no answer needs, and the same is due from each
 abbrev pub AnswersAlike : {W : Type 0} → SurfaceValue W → SurfaceValue W → Type 0
 AnswersAlike s t = (n : ℕ) → (knows t n ≡ knows s n) × (knows s n ≡ true → due t.log n ≡ due s.log n)
 
--- so its answer is a response then
-module _ {W : Type 0} (f : W → List ℕ → ℕ) (s : SourceValue W) (alike : AnswersAlike s.surface (trimmed s.surface)) (ask : Ask) (n : ℕ) (from : (n ≡ 0) ⊎ ((ask.source ≡ s.number) × (n ≡ ask.number))) (given : AnswerValue) (a : Answers f s n given) where
+module _ {W : Type 0} (s : SourceValue W) where
   abbrev now : SourceValue W
   now = record { surface = trimmed s.surface; number = s.number }
 
   number_same : next_number now.surface.log ≡ next_number s.surface.log
   number_same = flushed_number s.surface.log (next_number s.surface.log - delta_limit s.surface.width s.surface.height)
 
-  given_now : IsGivenBy full_screens f now.surface a.asked given
+module _ {W : Type 0} (f : W → List ℕ → ℕ) (s : SourceValue W) (alike : AnswersAlike s.surface (trimmed s.surface)) (n : ℕ) where
+  -- the same is given for a number by the surface that forgetting leaves
+  given_alike : given_for f (now s) n ≡ given_for f s n
+  given_alike = elim (cases_Bool (knows s.surface n)) [
+    | inr un ↦ for_unknown f (now s) n ((alike n).0 ∙ un) ∙ repaint_alike ∙ sym (for_unknown f s n un)
+    | inl known ↦ ap₂ (λ (k : Bool) (d : AnswerValue). chosen k (nat_le (length (bytes_of f s d)) (most_bytes s.surface.width s.surface.height)) d (repaint_of (now s).surface)) (alike n).0 (delta_alike known) ∙ ap (λ (r : AnswerValue). chosen (knows s.surface n) (nat_le (length (bytes_of f s (delta_of s.surface n))) (most_bytes s.surface.width s.surface.height)) (delta_of s.surface n) r) repaint_alike
+  ]
+    where
+      repaint_alike : repaint_of (now s).surface ≡ repaint_of s.surface
+      repaint_alike = ap (λ (k : ℕ). record { width = s.surface.width; height = s.surface.height; base = 0; number = k; changes = own_repaint s.surface }) (number_same s)
+
+      delta_alike : knows s.surface n ≡ true → delta_of (now s).surface n ≡ delta_of s.surface n
+      delta_alike known = ap₂ (λ (k : ℕ) (cs : List ChangeValue). record { width = s.surface.width; height = s.surface.height; base = n; number = k; changes = cs }) (number_same s) ((alike n).1 known)
+
+  -- and the answer is that
+  pub is_given_for : (given : AnswerValue) → Answers f s n given → length (bytes_of f s given) < 2 ^ 64 → given ≡ given_for f (now s) n
+  is_given_for given a fits = a.chosen fits ∙ sym given_alike
+
+-- so its answer is a response then
+module _ {W : Type 0} (f : W → List ℕ → ℕ) (s : SourceValue W) (alike : AnswersAlike s.surface (trimmed s.surface)) (ask : Ask) (n : ℕ) (from : (n ≡ 0) ⊎ ((ask.source ≡ s.number) × (n ≡ ask.number))) (given : AnswerValue) (a : Answers f s n given) where
+  given_now : IsGivenBy full_screens f (now s).surface a.asked given
   given_now = record {
     width = a.is_given.width;
     height = a.is_given.height;
-    number = a.is_given.number ∙ sym number_same;
+    number = a.is_given.number ∙ sym (number_same s);
     delta = λ known.
         let before : knows s.surface a.asked ≡ true = sym (alike a.asked).0 ∙ known in
         let delta = a.is_given.delta before in
@@ -104,7 +173,7 @@ module _ {W : Type 0} (f : W → List ℕ → ℕ) (s : SourceValue W) (alike : 
       by base (inr asked) (inl none) = inl (base ∙ asked ∙ none)
       by base (inr asked) (inr own) = inr (own.0, base ∙ asked ∙ own.1)
 
-  pub is_response : (bytes : List ℕ) → bytes ≡ answer (f s.surface.widths) (sent_by s.number given) → length bytes < 2 ^ 64 → IsSent (f s.surface.widths) (sent_by s.number given) → IsResponse f now ask bytes
+  pub is_response : (bytes : List ℕ) → bytes ≡ answer (f s.surface.widths) (sent_by s.number given) → length bytes < 2 ^ 64 → IsSent (f s.surface.widths) (sent_by s.number given) → IsResponse f (now s) ask bytes
   is_response bytes encoded fits sent = record {
     given = given;
     encoded = encoded;
@@ -112,11 +181,27 @@ module _ {W : Type 0} (f : W → List ℕ → ℕ) (s : SourceValue W) (alike : 
     width = a.is_given.width;
     height = a.is_given.height;
     sized = rw (a.is_given.width, a.is_given.height) a.sized;
-    number = a.is_given.number ∙ sym number_same;
+    number = a.is_given.number ∙ sym (number_same s);
     from = base_is;
-    carries = λ past is. given-carries full_screens (f s.surface.widths) past (full_of s.surface) now.surface.log a.asked given is given_now;
-    few = rw (encoded, number_same) (a.few (rw (← encoded) fits));
+    carries = λ past is. given-carries full_screens (f s.surface.widths) past (full_of s.surface) (now s).surface.log a.asked given is given_now;
+    few = rw (encoded, number_same s) (a.few (rw (← encoded) fits));
   }
+
+-- an ask of this source names a number of it, and any other none
+pub asked_own : (source : ℕ) (ask : Ask) (n : ℕ) → ask.source ≡ source → n ≡ ask.number → number_asked source ask ≡ n
+asked_own source ask n own same = ap (λ (b : Bool). if b then ask.number else 0) (eq-eqb ask.source source own) ∙ sym same
+
+pub asked_other : (source : ℕ) (ask : Ask) (n : ℕ) → (ask.source ≡ source → ⊥) → n ≡ 0 → number_asked source ask ≡ n
+asked_other source ask n other none = ap (λ (b : Bool). if b then ask.number else 0) (ne_eqb ask.source source other) ∙ sym none
+
+-- the bytes of what is given are the response's
+pub response_is : {W : Type 0} (f : W → List ℕ → ℕ) (s : SourceValue W) (t : SurfaceValue W) (ask : Ask) (n : ℕ) (given : AnswerValue) → t ≡ trimmed s.surface → AnswersAlike s.surface t → number_asked s.number ask ≡ n → Answers f s n given → (before after : List ℕ) → after ≡ before ++ bytes_of f s given → length after < 2 ^ 64 → after ≡ before ++ response_bytes f (record { surface = t; number = s.number }) ask
+response_is f s t ask n given same alike asked a before after whole fits =
+    let bytes : List ℕ = bytes_of f s given in
+    let few : length bytes < 2 ^ 64 = omega (arith, ap length whole, fits, length-append before bytes) in
+    let is : given ≡ given_for f (record { surface = trimmed s.surface; number = s.number }) n = is_given_for f s (subst (AnswersAlike s.surface) same alike) n given a few in
+    let is_now : given ≡ given_for f (record { surface = t; number = s.number }) (number_asked s.number ask) = is ∙ ap₂ (λ (v : SurfaceValue _) (k : ℕ). given_for f (record { surface = v; number = s.number }) k) (sym same) (sym asked) in
+    whole ∙ ap (λ (b : List ℕ). before ++ b) (ap (bytes_of f s) is_now ∙ ap (λ (v : SurfaceValue _). bytes_of f (record { surface = v; number = s.number }) (given_for f (record { surface = t; number = s.number }) (number_asked s.number ask))) (sym same))
 
 -- the same of the surface that forgetting leaves
 pub response_of : {W : Type 0} (f : W → List ℕ → ℕ) (s : SourceValue W) (t : SurfaceValue W) (ask : Ask) (n : ℕ) (given : AnswerValue) → t ≡ trimmed s.surface → AnswersAlike s.surface t → (n ≡ 0) ⊎ ((ask.source ≡ s.number) × (n ≡ ask.number)) → Answers f s n given → (before after : List ℕ) → after ≡ before ++ answer (f s.surface.widths) (sent_by s.number given) → length after < 2 ^ 64 → IsSent (f s.surface.widths) (sent_by s.number given) → Responds f (record { surface = t; number = s.number }) ask before after

@@ -1,5 +1,5 @@
 -- What a client shows of a stream of answers: what the last one that fits was given for.
-use Rattle.std.proofs.Common.{◌≡◌, ℕ, ◌<◌, true, false, List, [], ◌∷◌, ◌++◌, length, Result, Ok, Err, refl, sym, ap, subst, ◌∙◌, append_assoc, arith, inl, inr}
+use Rattle.std.proofs.Common.{◌≡◌, ℕ, ◌<◌, true, false, List, [], ◌∷◌, ◌++◌, length, Option, Result, Ok, Err, refl, sym, ap, subst, ◌∙◌, append_assoc, arith, inl, inr}
 use Rattle.std.specs.Prelude.{map, ◌==◌, fold, None, Some, if◌then◌else◌}
 use Rattle.std.specs.List.{AllByRecursion}
 use Rattle.std.proofs.lemmas.Bool.{cases_Bool, eqb-true, eq-eqb, true≢false}
@@ -23,10 +23,12 @@ use Rattle.termwiz_wire.specs.declared.fault.Limits.{Limits}
 use Rattle.termwiz_wire.specs.declared.sent.SentAnswer.{SentAnswer}
 use Rattle.termwiz_share.specs.declared.error.ClientError.{ClientError}
 use Rattle.termwiz_share.specs.declared.error.ClientError.TheVariants as errors
-use Rattle.termwiz_share.specs.Client.{ClientValue, Shown, blank_screen, fits, has_other_size, shown_by, taken}
-use Rattle.termwiz_share.specs.Feeding.{AreCut, Ends, Feeds, HasTaken, TakesAll, with_bytes}
+use Rattle.termwiz_share.specs.declared.taken.Taken.{Taken}
+use Rattle.termwiz_share.specs.declared.taken.Taken.TheVariants as shows
+use Rattle.termwiz_share.specs.Client.{ClientValue, SameSettings, Shown, blank_screen, fits, has_other_size, shown_by, stale_place, taken}
+use Rattle.termwiz_share.specs.Feeding.{AreCut, Ends, Feeds, HasTaken, Steps, TakesAll, TakesNext, with_bytes}
 use Rattle.termwiz_wire.specs.MoreBytes.{IsCut, Laws}
-use Rattle.termwiz_share.specs.Histories.{Follows, FollowsTo, Given, HasFollowed, HasMore, HasStopped, IsGenuine, IsNamed, after, after_all, stream}
+use Rattle.termwiz_share.specs.Histories.{Follows, FollowsNext, FollowsTo, Given, HasFollowed, HasKept, HasMore, HasStopped, HasTakenFirst, IsGenuine, IsNamed, after, after_all, stream}
 use Rattle.termwiz_share.proofs.Streams.{AreAgain, Decodes, no_fault, none_whole, others_of}
 
 -- one more answer at the end
@@ -143,8 +145,9 @@ module _ (m : List ℕ → ℕ) (limits : Limits) (histories : ℕ → ℕ → F
   front_genuine (g ∷ gs) others each = let rest = front_genuine gs others each.1 in ((each.0, rest.0), rest.1)
 
   -- what a stream is, once some answers of it are taken
-  pub record IsTaken (sent : List Given) (s t : Shown) (left : List ℕ) : Type 0 where
+  pub record IsTaken (sent : List Given) (count : ℕ) (s t : Shown) (left : List ℕ) : Type 0 where
     pub given : List Given
+    pub counted : length given ≡ count
     pub others : List Given
     pub all : sent ≡ given ++ others
     pub genuine : AllByRecursion (IsGenuine m limits histories) others
@@ -152,7 +155,7 @@ module _ (m : List ℕ → ℕ) (limits : Limits) (histories : ℕ → ℕ → F
     pub shows : t ≡ after_all s given
     pub named : IsNamed histories t
 
-  pub is_taken : (sent : List Given) (s t : Shown) (bytes future rest : List ℕ) (given : List SentAnswer) → AllByRecursion (IsGenuine m limits histories) sent → bytes ++ future ≡ stream m sent → IsNamed histories s → TakesAll m limits s bytes given t rest → IsTaken sent s t (rest ++ future)
+  pub is_taken : (sent : List Given) (s t : Shown) (bytes future rest : List ℕ) (given : List SentAnswer) → AllByRecursion (IsGenuine m limits histories) sent → bytes ++ future ≡ stream m sent → IsNamed histories s → TakesAll m limits s bytes given t rest → IsTaken sent (length given) s t (rest ++ future)
   is_taken sent s t bytes future rest given each whole named takes =
       let h = others_of (answer_at m limits) IsCut bytes_of sent_of laws.goes bytes future sent given rest (are_again sent each) whole (decoded m limits s bytes given t rest takes) in
       let parts = front_genuine h.taken h.others (subst (AllByRecursion (IsGenuine m limits histories)) h.all each) in
@@ -160,6 +163,7 @@ module _ (m : List ℕ → ℕ) (limits : Limits) (histories : ℕ → ℕ → F
       let shows : t ≡ after_all s h.taken = shown_last m limits s bytes given t rest takes ∙ ap (λ (v : List SentAnswer). fold (taken m) s v) (sym h.values) ∙ all.0 in
       record {
         given = h.taken;
+        counted = sym (length-map h.taken sent_of) ∙ ap length h.values;
         others = h.others;
         all = h.all;
         genuine = parts.1;
@@ -168,32 +172,48 @@ module _ (m : List ℕ → ℕ) (limits : Limits) (histories : ℕ → ℕ → F
         named = subst (IsNamed histories) (sym shows) all.1;
       }
 
-  has_more : (others : List Given) (left future : List ℕ) → AllByRecursion (IsGenuine m limits histories) others → left ++ future ≡ stream m others → AreCut m limits left → HasMore m others left
+  pub has_more : (others : List Given) (left future : List ℕ) → AllByRecursion (IsGenuine m limits histories) others → left ++ future ≡ stream m others → AreCut m limits left → HasMore m others left
   has_more [] left future each whole cut = tt
   has_more (g ∷ gs) left future each whole cut = none_whole (answer_at m limits) IsCut bytes_of sent_of laws.goes left future g gs cut.fault (again_of g each.0) whole cut.is
 
   -- its next answer has no fault,
-  no_bad : (others : List Given) (left future : List ℕ) (f : Fault) → AllByRecursion (IsGenuine m limits histories) others → left ++ future ≡ stream m others → answer_at m limits left ≡ Err f → (f.kind ≡ Truncated → ⊥) → ⊥
+  pub no_bad : (others : List Given) (left future : List ℕ) (f : Fault) → AllByRecursion (IsGenuine m limits histories) others → left ++ future ≡ stream m others → answer_at m limits left ≡ Err f → (f.kind ≡ Truncated → ⊥) → ⊥
   no_bad others left future f each whole is other = no_fault (answer_at m limits) IsCut bytes_of sent_of laws.goes left future others f (are_again others each) whole is other
 
-  -- and the size of what is shown, where it fits
-  no_other_size : (others : List Given) (left future : List ℕ) (t : Shown) (a : SentAnswer) (rest : List ℕ) → AllByRecursion (IsGenuine m limits histories) others → left ++ future ≡ stream m others → IsNamed histories t → answer_at m limits left ≡ Ok (a, rest) → has_other_size t a ≡ true → ⊥
-  no_other_size others left future t a rest each whole named is other =
-      let one = others_of (answer_at m limits) IsCut bytes_of sent_of laws.goes left future others (a ∷ []) rest (are_again others each) whole (rest, is, refl) in
-      with_first one.taken one.others one.values (front_genuine one.taken one.others (subst (AllByRecursion (IsGenuine m limits histories)) one.all each)).0
+  -- an answer that is read is the first of a stream
+  pub record IsFirst (sent : List Given) (a : SentAnswer) (left : List ℕ) : Type 0 where
+    pub first : Given
+    pub others : List Given
+    pub all : sent ≡ first ∷ others
+    pub same : first.sent ≡ a
+    pub genuine : IsGenuine m limits histories first
+    pub rest_genuine : AllByRecursion (IsGenuine m limits histories) others
+    pub whole : left ≡ stream m others
+
+  pub first_of : (sent : List Given) (left future : List ℕ) (a : SentAnswer) (rest : List ℕ) → AllByRecursion (IsGenuine m limits histories) sent → left ++ future ≡ stream m sent → answer_at m limits left ≡ Ok (a, rest) → IsFirst sent a (rest ++ future)
+  first_of sent left future a rest each whole is =
+      let one = others_of (answer_at m limits) IsCut bytes_of sent_of laws.goes left future sent (a ∷ []) rest (are_again sent each) whole (rest, is, refl) in
+      with_first one.taken one.others one.values one.all one.whole
     where
-      with_first : (taken others : List Given) → map sent_of taken ≡ a ∷ [] → AllByRecursion (IsGenuine m limits histories) taken → ⊥
-      with_first [] others values each = cc
-      with_first (g ∷ gs) others values each =
-          let same : g.sent ≡ a = cc in
-          true≢false (sym other ∙ ap (has_other_size t) (sym same) ∙ (taken_as m limits histories t g named each.0).1)
+      with_first : (taken others : List Given) → map sent_of taken ≡ a ∷ [] → sent ≡ taken ++ others → rest ++ future ≡ stream m others → IsFirst sent a (rest ++ future)
+      with_first [] others values all left = cc
+      with_first (g ∷ h ∷ more) others values all left = cc
+      with_first (g ∷ []) others values all left =
+          let parts = front_genuine (g ∷ []) others (subst (AllByRecursion (IsGenuine m limits histories)) all each) in
+          record { first = g; others = others; all = all; same = (let same : g.sent ≡ a = cc in same); genuine = parts.0.0; rest_genuine = parts.1; whole = left }
+
+  -- it has the size of what is shown, where it fits
+  pub no_other_size : (others : List Given) (left future : List ℕ) (t : Shown) (a : SentAnswer) (rest : List ℕ) → AllByRecursion (IsGenuine m limits histories) others → left ++ future ≡ stream m others → IsNamed histories t → answer_at m limits left ≡ Ok (a, rest) → has_other_size t a ≡ true → ⊥
+  no_other_size others left future t a rest each whole named is other =
+      let one = first_of others left future a rest each whole is in
+      true≢false (sym other ∙ ap (has_other_size t) (sym one.same) ∙ (taken_as m limits histories t one.first named one.genuine).1)
 
 -- what a client makes of a stream whose answers it has taken up to mid
 module _ {W : Type 0} (f : W → List ℕ → ℕ) (histories : ℕ → ℕ → FullScreen) (sent : List Given) (future : List ℕ) (old : ClientValue W) (piece : List ℕ) (laws : Laws (f old.surface.widths) old.limits) (follows : Follows f histories sent old (piece ++ future)) (mid : ClientValue W) (taken_all : HasTaken f (with_bytes old piece) mid) where
   abbrev m : List ℕ → ℕ
   m = f old.surface.widths
 
-  it : IsTaken m old.limits histories laws sent (shown_by old) (shown_by mid) (mid.kept ++ future)
+  it : IsTaken m old.limits histories laws sent (length taken_all.given) (shown_by old) (shown_by mid) (mid.kept ++ future)
   it = is_taken m old.limits histories laws sent (shown_by old) (shown_by mid) (old.kept ++ piece) future mid.kept taken_all.given follows.genuine (append_assoc old.kept piece future ∙ follows.whole) follows.named taken_all.takes
 
   same : f mid.surface.widths ≡ m
@@ -211,9 +231,10 @@ module _ {W : Type 0} (f : W → List ℕ → ℕ) (histories : ℕ → ℕ → 
   cut_same : AreCut (f mid.surface.widths) mid.limits mid.kept → AreCut m old.limits mid.kept
   cut_same cut = record { fault = cut.fault; is = sym read_same ∙ cut.is; cut = cut.cut }
 
-  waits_on : AreCut (f mid.surface.widths) mid.limits mid.kept → HasFollowed f histories sent future old mid
-  waits_on cut = record {
+  waits_on : (count : ℕ) → count ≡ length taken_all.given → AreCut (f mid.surface.widths) mid.limits mid.kept → HasFollowed f histories sent future count old mid
+  waits_on count all cut = record {
     given = it.given;
+    counted = all ∙ sym it.counted;
     others = it.others;
     all = it.all;
     left = rw same it.whole;
@@ -222,8 +243,8 @@ module _ {W : Type 0} (f : W → List ℕ → ℕ) (histories : ℕ → ℕ → 
     named = it.named;
   }
 
-  ended : (result : Result (Unit {0}) ClientError) (new : ClientValue W) → Ends f mid result new → FollowsTo f histories sent future old result new
-  ended (Ok u) new ends = subst (HasFollowed f histories sent future old) (sym ends.1) (waits_on ends.0)
+  ended : (result : Result ℕ ClientError) (new : ClientValue W) → Ends f mid (length taken_all.given) result new → FollowsTo f histories sent future old result new
+  ended (Ok n) new ends = subst (HasFollowed f histories sent future n old) (sym ends.1.1) (waits_on n ends.0 ends.1.0)
   ended (Err (errors.Fault x)) new ends = no_bad m old.limits histories laws it.others mid.kept future x it.genuine it.whole (sym read_same ∙ ends.0) ends.1
   ended (Err (errors.Size at)) new ends = no_other_size m old.limits histories laws it.others mid.kept future (shown_by mid) ends.0 ends.1 it.genuine it.whole it.named (sym read_same ∙ ends.2) ends.3
   ended (Err errors.Numbers) new ends = forgotten new (ap (λ (c : ClientValue W). c.number) ends.4)
@@ -238,7 +259,68 @@ module _ {W : Type 0} (f : W → List ℕ → ℕ) (histories : ℕ → ℕ → 
   refused : {new : ClientValue W} → shown_by new ≡ shown_by old → IsNamed histories (shown_by old) → HasStopped f histories sent old new
   refused same named = record { given = []; others = sent; all = refl; shows = inl same; named = subst (IsNamed histories) (sym same) named }
 
-  pub follows_to : (result : Result (Unit {0}) ClientError) (new : ClientValue W) → Feeds f old piece result new → Follows f histories sent old (piece ++ future) → FollowsTo f histories sent future old result new
+  pub follows_to : (result : Result ℕ ClientError) (new : ClientValue W) → Feeds f old piece result new → Follows f histories sent old (piece ++ future) → FollowsTo f histories sent future old result new
   follows_to result new (inl stopped) follows = absurd (some_error stopped.0 stopped.1 follows.reading)
-  follows_to result new (inr (inl none)) follows = subst (λ (r : Result (Unit {0}) ClientError). FollowsTo f histories sent future old r new) (sym none.1) (refused (ap shown_by none.2) follows.named)
+  follows_to result new (inr (inl none)) follows = subst (λ (r : Result ℕ ClientError). FollowsTo f histories sent future old r new) (sym none.1) (refused (ap shown_by none.2) follows.named)
   follows_to result new (inr (inr reads)) follows = ended f histories sent future old piece laws follows reads.1.mid reads.1.has_taken result new reads.1.ends
+
+-- what it makes of the next answer of the bytes that it keeps
+module _ {W : Type 0} (f : W → List ℕ → ℕ) (histories : ℕ → ℕ → FullScreen) (sent : List Given) (future : List ℕ) (old : ClientValue W) (laws : Laws (f old.surface.widths) old.limits) (follows : Follows f histories sent old future) where
+  abbrev m_now : List ℕ → ℕ
+  m_now = f old.surface.widths
+
+  module _ (new : ClientValue W) (a : SentAnswer) (read : answer_at m_now old.limits old.kept ≡ Ok (a, new.kept)) (settings : SameSettings old new) where
+    one : IsFirst m_now old.limits histories laws sent a (new.kept ++ future)
+    one = first_of m_now old.limits histories laws sent old.kept future a new.kept follows.genuine follows.whole read
+
+    as_given : taken m_now (shown_by old) a ≡ after (shown_by old) one.first
+    as_given = ap (taken m_now (shown_by old)) (sym one.same) ∙ (taken_as m_now old.limits histories (shown_by old) one.first follows.named one.genuine).0
+
+    abbrev first_taken : IsNamed histories (shown_by new) → HasTakenFirst f histories sent future new
+    first_taken named = record {
+      first = one.first;
+      others = one.others;
+      all = one.all;
+      follows = record {
+        reading = settings.stopped ∙ follows.reading;
+        genuine = subst (λ (l : Limits). AllByRecursion (IsGenuine (f new.surface.widths) l histories) one.others) (sym settings.limits)
+            (subst (λ (k : List ℕ → ℕ). AllByRecursion (IsGenuine k old.limits histories) one.others) (sym (ap f settings.widths)) one.rest_genuine);
+        whole = subst (λ (k : List ℕ → ℕ). new.kept ++ future ≡ stream k one.others) (sym (ap f settings.widths)) one.whole;
+        named = named;
+      };
+    }
+
+    taken_next : fits (shown_by old) a ≡ true → shown_by new ≡ taken m_now (shown_by old) a → FollowsNext f histories sent future old (Ok (Some shows.Shown)) new
+    taken_next fit is =
+        let shown : shown_by new ≡ after (shown_by old) one.first = is ∙ as_given in
+        let named : IsNamed histories (after (shown_by old) one.first) = named_after m_now old.limits histories (shown_by old) one.first follows.named one.genuine in
+        (first_taken (subst (IsNamed histories) (sym shown) named), ap (fits (shown_by old)) one.same ∙ fit, shown)
+
+    stale_next : (at : ℕ) → fits (shown_by old) a ≡ false → at ≡ stale_place (shown_by old) a → shown_by new ≡ shown_by old → FollowsNext f histories sent future old (Ok (Some (shows.Stale at))) new
+    stale_next at unfit place same =
+        (first_taken (subst (IsNamed histories) (sym same) follows.named), ap (fits (shown_by old)) one.same ∙ unfit, place ∙ ap (stale_place (shown_by old)) (sym one.same), same)
+
+  kept_as : (new : ClientValue W) → shown_by new ≡ shown_by old → HasKept f histories sent old new
+  kept_as new same = record { shows = inl same; named = subst (IsNamed histories) (sym same) follows.named }
+
+  kept_none : (new : ClientValue W) → new.number ≡ 0 → HasKept f histories sent old new
+  kept_none new none = record { shows = inr none; named = record { named = λ some. absurd (some none) } }
+
+  next_of : (result : Result (Option Taken) ClientError) (new : ClientValue W) → Steps f old result new → FollowsNext f histories sent future old result new
+  next_of (Ok (Some shows.Shown)) new s = taken_next new s.0 s.1 s.5 s.2 s.4
+  next_of (Ok (Some (shows.Stale at))) new s =
+      let settings : SameSettings old new = record { widths = ap (λ (c : ClientValue W). c.surface.widths) s.4; limits = ap (λ (c : ClientValue W). c.limits) s.4; stopped = ap (λ (c : ClientValue W). c.stopped) s.4 } in
+      stale_next new s.0 s.1 settings at s.2 s.3 (ap shown_by s.4)
+  next_of (Ok None) new s = (has_more m_now old.limits histories laws sent old.kept future follows.genuine follows.whole s.0, s.1)
+  next_of (Err (errors.Fault x)) new s = no_bad m_now old.limits histories laws sent old.kept future x follows.genuine follows.whole s.0 s.1
+  next_of (Err (errors.Size at)) new s = no_other_size m_now old.limits histories laws sent old.kept future (shown_by old) s.0 s.1 follows.genuine follows.whole follows.named s.2 s.3
+  next_of (Err errors.Numbers) new s = kept_none new (ap (λ (c : ClientValue W). c.number) s.4)
+  next_of (Err errors.Memory) new (inl s) = kept_as new (ap shown_by s)
+  next_of (Err errors.Memory) new (inr s) = kept_none new s.number
+
+  open_next : (result : Result (Option Taken) ClientError) (new : ClientValue W) → TakesNext f old result new → Steps f old result new
+  open_next result new (inl stopped) = absurd (let bad : Some stopped.0 ≡ None = sym stopped.1 ∙ follows.reading in let no_way : ⊥ = cc in no_way)
+  open_next result new (inr s) = s.1
+
+  pub follows_next : (result : Result (Option Taken) ClientError) (new : ClientValue W) → TakesNext f old result new → FollowsNext f histories sent future old result new
+  follows_next result new t = next_of result new (open_next result new t)

@@ -1,7 +1,7 @@
 -- A source goes on to serve its clients, whatever happens to either.
-use Rattle.std.proofs.Common.{◌≡◌, ◌⊎◌, ℕ, ◌*◌, ◌<◌, ◌≤◌, true, List, [], ◌∷◌, ◌++◌, length, Result, Ok, Err, refl, sym, ap, subst, ◌∙◌, arith, inl, inr}
-use Rattle.std.specs.Prelude.{◌==◌, None, Some, OnOk, if◌then◌else◌}
-use Rattle.std.proofs.lemmas.Bool.{cases_Bool, cases_lt, eqb-true, eq-eqb}
+use Rattle.std.proofs.Common.{◌≡◌, ◌⊎◌, ℕ, ◌*◌, ◌<◌, ◌≤◌, true, List, [], ◌∷◌, ◌++◌, length, Option, Result, Ok, Err, refl, sym, ap, subst, ◌∙◌, arith, inl, inr}
+use Rattle.std.specs.Prelude.{◌==◌, false, None, Some, OnOk, if◌then◌else◌}
+use Rattle.std.proofs.lemmas.Bool.{cases_Bool, cases_lt, eqb-true, eq-eqb, true≢false}
 use Rattle.std.proofs.lemmas.List.{append-nil}
 use Rattle.cbor.specs.declared.error.FaultKind.TheVariants.{Limit, Truncated}
 use Rattle.termwiz_screen.specs.FullScreen.{FullScreen}
@@ -16,16 +16,19 @@ use Rattle.termwiz_surface.specs.Following as following
 use Rattle.termwiz_wire.specs.Answers.{answer_at}
 use Rattle.termwiz_wire.specs.Sent.{answer}
 use Rattle.termwiz_wire.specs.declared.fault.Fault.{Fault}
+use Rattle.termwiz_wire.specs.declared.fault.Limits.{Limits}
 use Rattle.termwiz_wire.specs.declared.sent.SentAnswer.{SentAnswer}
 use Rattle.termwiz_share.specs.declared.error.ClientError.{ClientError}
 use Rattle.termwiz_share.specs.declared.error.ClientError.TheVariants as errors
-use Rattle.termwiz_share.specs.Client.{ClientValue, IsReady, SameSettings, Shown, ask_of, fits, shown_by}
-use Rattle.termwiz_share.specs.Feeding.{Ends, Feeds, TakesAll, with_bytes}
-use Rattle.termwiz_share.specs.Histories.{Follows, FollowsTo, Given, HasFollowed, HasMore, HasStopped, IsGenuine, IsNamed, after, after_all, stream}
+use Rattle.termwiz_share.specs.declared.taken.Taken.{Taken}
+use Rattle.termwiz_share.specs.declared.taken.Taken.TheVariants as outcomes
+use Rattle.termwiz_share.specs.Client.{ClientValue, IsReady, SameSettings, Shown, ask_of, fits, has_other_size, shown_by, taken}
+use Rattle.termwiz_share.specs.Feeding.{Ends, Feeds, Steps, TakesAll, TakesNext, with_bytes}
+use Rattle.termwiz_share.specs.Histories.{Follows, FollowsNext, FollowsTo, Given, HasFollowed, HasKept, HasMore, HasStopped, IsGenuine, IsNamed, after, after_all, stream}
 use Rattle.termwiz_share.specs.Serving.{KeepsClients, Serves, Shows}
 use Rattle.termwiz_share.specs.Source.{IsResponse, SourceValue, sent_by}
 use Rattle.termwiz_wire.specs.MoreBytes.{Laws}
-use Rattle.termwiz_share.proofs.Fed.{follows_to}
+use Rattle.termwiz_share.proofs.Fed.{follows_next, follows_to, taken_as}
 use Rattle.termwiz_share.proofs.Streams.{err_is, ok_or_err}
 
 -- whatever it shows, a viewer with no number follows
@@ -120,30 +123,41 @@ module _ {W : Type 0} (f : W → List ℕ → ℕ) where
     }
 
 -- it takes more bytes after a success
-abbrev pub IsOpen : {W : Type 0} → Result (Unit {0}) ClientError → ClientValue W → Type 0
+abbrev pub IsOpen : {W : Type 0} → Result ℕ ClientError → ClientValue W → Type 0
 IsOpen result new = (Unit {0} → OnOk result (new.stopped ≡ None))
 
 -- a client keeps its width value, and takes more bytes after a success
 module _ {W : Type 0} (f : W → List ℕ → ℕ) (old mid : ClientValue W) where
-  ends_settings : (result : Result (Unit {0}) ClientError) (new : ClientValue W) → mid.surface.widths ≡ old.surface.widths → mid.stopped ≡ None → Ends f mid result new → (new.surface.widths ≡ old.surface.widths) × IsOpen result new
-  ends_settings (Ok u) new widths reading ends = (ap (λ (c : ClientValue W). c.surface.widths) ends.1 ∙ widths, λ t. ap (λ (c : ClientValue W). c.stopped) ends.1 ∙ reading)
-  ends_settings (Err (errors.Fault x)) new widths reading ends = (ap (λ (c : ClientValue W). c.surface.widths) ends.2 ∙ widths, λ t. tt)
-  ends_settings (Err (errors.Size at)) new widths reading ends = (ap (λ (c : ClientValue W). c.surface.widths) ends.5 ∙ widths, λ t. tt)
-  ends_settings (Err errors.Numbers) new widths reading ends = (ap (λ (c : ClientValue W). c.surface.widths) ends.4 ∙ widths, λ t. tt)
-  ends_settings (Err errors.Memory) new widths reading (inl ends) = (ap (λ (c : ClientValue W). c.surface.widths) ends ∙ widths, λ t. tt)
-  ends_settings (Err errors.Memory) new widths reading (inr ends) = (ends.settings.widths ∙ widths, λ t. tt)
+  ends_settings : (count : ℕ) (result : Result ℕ ClientError) (new : ClientValue W) → mid.surface.widths ≡ old.surface.widths → mid.stopped ≡ None → Ends f mid count result new → (new.surface.widths ≡ old.surface.widths) × IsOpen result new
+  ends_settings count (Ok n) new widths reading ends = (ap (λ (c : ClientValue W). c.surface.widths) ends.1.1 ∙ widths, λ t. ap (λ (c : ClientValue W). c.stopped) ends.1.1 ∙ reading)
+  ends_settings count (Err (errors.Fault x)) new widths reading ends = (ap (λ (c : ClientValue W). c.surface.widths) ends.2 ∙ widths, λ t. tt)
+  ends_settings count (Err (errors.Size at)) new widths reading ends = (ap (λ (c : ClientValue W). c.surface.widths) ends.5 ∙ widths, λ t. tt)
+  ends_settings count (Err errors.Numbers) new widths reading ends = (ap (λ (c : ClientValue W). c.surface.widths) ends.4 ∙ widths, λ t. tt)
+  ends_settings count (Err errors.Memory) new widths reading (inl ends) = (ap (λ (c : ClientValue W). c.surface.widths) ends ∙ widths, λ t. tt)
+  ends_settings count (Err errors.Memory) new widths reading (inr ends) = (ends.settings.widths ∙ widths, λ t. tt)
 
-module _ {W : Type 0} (f : W → List ℕ → ℕ) (old : ClientValue W) (bytes : List ℕ) (result : Result (Unit {0}) ClientError) (new : ClientValue W) where
+module _ {W : Type 0} (f : W → List ℕ → ℕ) (old : ClientValue W) (bytes : List ℕ) (result : Result ℕ ClientError) (new : ClientValue W) where
   feeds_settings : Feeds f old bytes result new → (new.surface.widths ≡ old.surface.widths) × IsOpen result new
   feeds_settings (inl stopped) = (ap (λ (c : ClientValue W). c.surface.widths) stopped.3, λ t. rw (stopped.2) tt)
   feeds_settings (inr (inl none)) = (ap (λ (c : ClientValue W). c.surface.widths) none.2, λ t. rw (none.1) tt)
-  feeds_settings (inr (inr reads)) = let settings = reads.1.has_taken.settings in ends_settings f old reads.1.mid result new settings.widths (settings.stopped ∙ reads.0) reads.1.ends
+  feeds_settings (inr (inr reads)) = let settings = reads.1.has_taken.settings in ends_settings f old reads.1.mid (length reads.1.has_taken.given) result new settings.widths (settings.stopped ∙ reads.0) reads.1.ends
 
   pub feeds_widths : Feeds f old bytes result new → new.surface.widths ≡ old.surface.widths
   feeds_widths feeds = (feeds_settings feeds).0
 
   pub feeds_open : Feeds f old bytes result new → IsOpen result new
   feeds_open feeds = (feeds_settings feeds).1
+
+-- nor does a step change its width value
+step_widths : {W : Type 0} (f : W → List ℕ → ℕ) (old : ClientValue W) (result : Result (Option Taken) ClientError) (new : ClientValue W) → Steps f old result new → new.surface.widths ≡ old.surface.widths
+step_widths f old (Ok (Some outcomes.Shown)) new t = t.5.widths
+step_widths {W = W} f old (Ok (Some (outcomes.Stale at))) new t = ap (λ (c : ClientValue W). c.surface.widths) t.4
+step_widths {W = W} f old (Ok None) new t = ap (λ (c : ClientValue W). c.surface.widths) t.1
+step_widths {W = W} f old (Err (errors.Fault x)) new t = ap (λ (c : ClientValue W). c.surface.widths) t.2
+step_widths {W = W} f old (Err (errors.Size at)) new t = ap (λ (c : ClientValue W). c.surface.widths) t.5
+step_widths {W = W} f old (Err errors.Numbers) new t = ap (λ (c : ClientValue W). c.surface.widths) t.4
+step_widths {W = W} f old (Err errors.Memory) new (inl t) = ap (λ (c : ClientValue W). c.surface.widths) t
+step_widths f old (Err errors.Memory) new (inr t) = t.settings.widths
 
 -- a client takes the response to its ask
 module _ {W : Type 0} (f : W → List ℕ → ℕ) (s : SourceValue W) (c : ClientValue W) (serves : Serves f s c) (bytes : List ℕ) (response : IsResponse f s (ask_of c) bytes) where
@@ -184,13 +198,21 @@ module _ {W : Type 0} (f : W → List ℕ → ℕ) (s : SourceValue W) (c : Clie
         | inr some ↦ rw (some, eq-eqb s.number c.source (sym from.0), eq-eqb given.base c.number from.1) refl
       ]
 
-  names_now : Names serves.past (next_number s.surface.log) (full_of s.surface)
+  pub names_now : Names serves.past (next_number s.surface.log) (full_of s.surface)
   names_now = rw (← response.number) (response.carries serves.past serves.is_past).named
 
   shows_after : (new : ClientValue W) → shown_by new ≡ after (shown_by c) g → Shows s new
   shows_after new is =
       let taken : shown_by new ≡ record { picture = full_of s.surface; source = s.number; number = given.number } = is ∙ rw fits_it refl in
       record { picture = ap (λ (v : Shown). v.picture) taken; source = ap (λ (v : Shown). v.source) taken; number = ap (λ (v : Shown). v.number) taken ∙ response.number }
+
+  -- whatever else it shows, the response leads from there to what the source shows
+  pub response_taken : (fits (shown_by c) g.sent ≡ true) × (has_other_size (shown_by c) g.sent ≡ false) × (taken m (shown_by c) g.sent ≡ record { picture = full_of s.surface; source = s.number; number = given.number })
+  response_taken =
+      let limits : Limits = record { cells = given.width * given.height; bytes = length (answer m (sent_by s.number given)) } in
+      let genuine : IsGenuine m limits histories g = record { is_sent = rw serves.one_measure response.is_sent; cells = omega arith; bytes = omega arith; sized = response.sized; carries = carries } in
+      let given_as = taken_as m limits histories (shown_by c) g named genuine in
+      (fits_it, given_as.1, given_as.0 ∙ rw fits_it refl)
 
   nothing_left : (kept : List ℕ) → kept ++ [] ≡ [] → kept ≡ []
   nothing_left kept e = sym (append-nil kept) ∙ e
@@ -218,20 +240,20 @@ module _ {W : Type 0} (f : W → List ℕ → ℕ) (s : SourceValue W) (c : Clie
         named = named;
       }
 
-      pub within : (result : Result (Unit {0}) ClientError) (new : ClientValue W) → new.surface.widths ≡ c.surface.widths → Feeds f c bytes result new → OnOk result (Shows s new × IsReady new) × Serves f s new
+      pub within : (result : Result ℕ ClientError) (new : ClientValue W) → new.surface.widths ≡ c.surface.widths → Feeds f c bytes result new → OnOk result (Shows s new × IsReady new) × Serves f s new
       within result new widths feeds = by result (follows_to f histories (g ∷ []) [] c bytes laws result new feeds follows) (feeds_open f c bytes result new feeds)
         where
           -- no whole answer is kept
-          whole_kept : (h : HasFollowed f histories (g ∷ []) [] c new) → h.others ≡ g ∷ [] → ⊥
-          whole_kept h all =
+          whole_kept : (n : ℕ) (h : HasFollowed f histories (g ∷ []) [] n c new) → h.others ≡ g ∷ [] → ⊥
+          whole_kept n h all =
               let few : HasMore (f new.surface.widths) (g ∷ []) new.kept = subst (λ (v : List Given). HasMore (f new.surface.widths) v new.kept) all h.no_whole in
               let kept : new.kept ++ [] ≡ answer (f new.surface.widths) g.sent ++ [] = h.left ∙ ap (stream (f new.surface.widths)) all in
               let same : new.kept ≡ answer (f new.surface.widths) g.sent = sym (append-nil new.kept) ∙ kept ∙ append-nil (answer (f new.surface.widths) g.sent) in
               omega (arith, few, ap length same)
 
-          ok_by : HasFollowed f histories (g ∷ []) [] c new → new.stopped ≡ None → Shows s new × IsReady new
-          ok_by h reading = elim (one_of h.given h.others h.all) [
-            | inl none ↦ absurd (whole_kept h none.1)
+          ok_by : (n : ℕ) → HasFollowed f histories (g ∷ []) [] n c new → new.stopped ≡ None → Shows s new × IsReady new
+          ok_by n h reading = elim (one_of h.given h.others h.all) [
+            | inl none ↦ absurd (whole_kept n h none.1)
             | inr all ↦ (shows_after new (h.shows ∙ ap (after_all (shown_by c)) all.0), record { kept = nothing_left new.kept (h.left ∙ ap (stream (f new.surface.widths)) all.1); reading = reading })
           ]
 
@@ -246,8 +268,8 @@ module _ {W : Type 0} (f : W → List ℕ → ℕ) (s : SourceValue W) (c : Clie
             ]
           ]
 
-          by : (result : Result (Unit {0}) ClientError) → FollowsTo f histories (g ∷ []) [] c result new → IsOpen result new → OnOk result (Shows s new × IsReady new) × Serves f s new
-          by (Ok u) h reading = let shows = ok_by h (reading tt) in (shows, serves_shown f s c new serves widths shows.0.picture shows.0.number names_now)
+          by : (result : Result ℕ ClientError) → FollowsTo f histories (g ∷ []) [] c result new → IsOpen result new → OnOk result (Shows s new × IsReady new) × Serves f s new
+          by (Ok n) h reading = let shows = ok_by n h (reading tt) in (shows, serves_shown f s c new serves widths shows.0.picture shows.0.number names_now)
           by (Err errors.Numbers) h reading = (tt, stopped_by h)
           by (Err errors.Memory) h reading = (tt, stopped_by h)
           by (Err (errors.Fault x)) h reading = absurd h
@@ -276,30 +298,30 @@ module _ {W : Type 0} (f : W → List ℕ → ℕ) (s : SourceValue W) (c : Clie
         still : shown_by new ≡ shown_by mid → Serves f s new
         still is = serves_same f s c new serves widths (is ∙ same)
 
-        refused_end : (result : Result (Unit {0}) ClientError) → Ends f mid result new → OnOk result (Shows s new × IsReady new) × Serves f s new
-        refused_end (Ok u) ends =
-            let x : ends.0.fault ≡ refusal.0 = err_is ends.0.fault refusal.0 (answer_at m c.limits (c.kept ++ bytes)) (sym read_mid ∙ ends.0.is) refusal.1 in
-            let bad : Truncated ≡ Limit = sym ends.0.cut ∙ ap (λ (v : Fault). v.kind) x ∙ refusal.2 in
+        refused_end : (count : ℕ) (result : Result ℕ ClientError) → Ends f mid count result new → OnOk result (Shows s new × IsReady new) × Serves f s new
+        refused_end count (Ok n) ends =
+            let x : ends.1.0.fault ≡ refusal.0 = err_is ends.1.0.fault refusal.0 (answer_at m c.limits (c.kept ++ bytes)) (sym read_mid ∙ ends.1.0.is) refusal.1 in
+            let bad : Truncated ≡ Limit = sym ends.1.0.cut ∙ ap (λ (v : Fault). v.kind) x ∙ refusal.2 in
             absurd (let no_way : ⊥ = cc in no_way)
-        refused_end (Err (errors.Fault x)) ends = (tt, still (ap shown_by ends.2))
-        refused_end (Err (errors.Size at)) ends = absurd (none_read ends.0 ends.1 (sym read_mid ∙ ends.2))
-        refused_end (Err errors.Numbers) ends = absurd (none_read ends.0 ends.1 (sym read_mid ∙ ends.2))
-        refused_end (Err errors.Memory) (inl ends) = (tt, still (ap shown_by ends))
-        refused_end (Err errors.Memory) (inr ends) = (tt, serves_none f s c new serves widths ends.number)
+        refused_end count (Err (errors.Fault x)) ends = (tt, still (ap shown_by ends.2))
+        refused_end count (Err (errors.Size at)) ends = absurd (none_read ends.0 ends.1 (sym read_mid ∙ ends.2))
+        refused_end count (Err errors.Numbers) ends = absurd (none_read ends.0 ends.1 (sym read_mid ∙ ends.2))
+        refused_end count (Err errors.Memory) (inl ends) = (tt, still (ap shown_by ends))
+        refused_end count (Err errors.Memory) (inr ends) = (tt, serves_none f s c new serves widths ends.number)
 
       no_stop : (e : ClientError) → c.stopped ≡ Some e → ⊥
       no_stop e is = let bad : Some e ≡ None = sym is ∙ ready.reading in cc
 
-      pub beyond : (result : Result (Unit {0}) ClientError) (new : ClientValue W) → new.surface.widths ≡ c.surface.widths → Feeds f c bytes result new → OnOk result (Shows s new × IsReady new) × Serves f s new
+      pub beyond : (result : Result ℕ ClientError) (new : ClientValue W) → new.surface.widths ≡ c.surface.widths → Feeds f c bytes result new → OnOk result (Shows s new × IsReady new) × Serves f s new
       beyond result new widths (inl stopped) = absurd (no_stop stopped.0 stopped.1)
       beyond result new widths (inr (inl none)) = rw none.1 (tt, serves_same f s c new serves widths (ap shown_by none.2))
       beyond result new widths (inr (inr reads)) =
           let t = reads.1.has_taken in
           let none = not_taken t.given (shown_by reads.1.mid) reads.1.mid.kept t.takes in
-          refused_end reads.1.mid new t.settings none.0 none.1 widths result reads.1.ends
+          refused_end reads.1.mid new t.settings none.0 none.1 widths (length t.given) result reads.1.ends
 
     -- a client that takes the response shows what the source shows, and is served by it, also after an error
-    pub responded : (result : Result (Unit {0}) ClientError) (new : ClientValue W) → Feeds f c bytes result new → OnOk result (Shows s new × IsReady new) × Serves f s new
+    pub responded : (result : Result ℕ ClientError) (new : ClientValue W) → Feeds f c bytes result new → OnOk result (Shows s new × IsReady new) × Serves f s new
     responded result new feeds =
         let widths = feeds_widths f c bytes result new feeds in
         elim (cases_lt c.limits.cells (given.width * given.height)) [
@@ -307,5 +329,83 @@ module _ {W : Type 0} (f : W → List ℕ → ℕ) (s : SourceValue W) (c : Clie
           | inr cells ↦ elim (cases_lt c.limits.bytes (length (answer m (sent_by s.number given)))) [
             | inl long ↦ beyond (inr long) result new widths feeds
             | inr few ↦ within cells few result new widths feeds
+          ]
+        ]
+
+  -- one that has it among the bytes that it keeps
+  module _ (laws : Laws m c.limits) (reading : c.stopped ≡ None) (kept : c.kept ≡ bytes) where
+    abbrev Answered : Result (Option Taken) ClientError → ClientValue W → Type 0
+    Answered result new = OnOk result ((result ≡ Ok (Some outcomes.Shown)) × Shows s new × IsReady new) × Serves f s new
+
+    kept_encoded : c.kept ≡ answer m (sent_by s.number given)
+    kept_encoded = kept ∙ rw serves.one_measure response.encoded
+
+    open_next : (result : Result (Option Taken) ClientError) (new : ClientValue W) → TakesNext f c result new → Steps f c result new
+    open_next result new (inl stopped) = absurd (let bad : Some stopped.0 ≡ None = sym stopped.1 ∙ reading in let no_way : ⊥ = cc in no_way)
+    open_next result new (inr t) = t.1
+
+    module _ (cells : given.width * given.height ≤ c.limits.cells) (few : length (answer m (sent_by s.number given)) ≤ c.limits.bytes) where
+      follows_kept : Follows f histories (g ∷ []) c []
+      follows_kept = record {
+        reading = reading;
+        genuine = (record { is_sent = rw serves.one_measure response.is_sent; cells = cells; bytes = few; sized = response.sized; carries = carries }, tt);
+        whole = ap (λ (t : List ℕ). t ++ []) kept_encoded;
+        named = named;
+      }
+
+      is_given : (first : Given) (others : List Given) → g ∷ [] ≡ first ∷ others → (first ≡ g) × (others ≡ [])
+      is_given first others e = (let same : g ≡ first = cc in sym same, let rest : [] ≡ others = cc in sym rest)
+
+      next_kept : (new : ClientValue W) → new.surface.widths ≡ c.surface.widths → HasKept f histories (g ∷ []) c new → Serves f s new
+      next_kept new widths h = elim h.shows [
+        | inl same ↦ serves_same f s c new serves widths same
+        | inr none ↦ serves_none f s c new serves widths none
+      ]
+
+      next_within : (result : Result (Option Taken) ClientError) (new : ClientValue W) → new.surface.widths ≡ c.surface.widths → FollowsNext f histories (g ∷ []) [] c result new → Answered result new
+      next_within (Ok (Some outcomes.Shown)) new widths h =
+          let only = is_given h.0.first h.0.others h.0.all in
+          let shown = shows_after new (h.2 ∙ ap (after (shown_by c)) only.0) in
+          let none : new.kept ≡ [] = nothing_left new.kept (h.0.follows.whole ∙ ap (stream (f new.surface.widths)) only.1) in
+          ((refl, shown, record { kept = none; reading = h.0.follows.reading }), serves_shown f s c new serves widths shown.picture shown.number names_now)
+      next_within (Ok (Some (outcomes.Stale at))) new widths h = absurd (true≢false (sym fits_it ∙ ap (λ (x : Given). fits (shown_by c) x.sent) (sym (is_given h.0.first h.0.others h.0.all).0) ∙ h.1))
+      next_within (Ok None) new widths h = absurd (omega (arith, h.0, ap length kept_encoded))
+      next_within (Err errors.Numbers) new widths h = (tt, next_kept new widths h)
+      next_within (Err errors.Memory) new widths h = (tt, next_kept new widths h)
+      next_within (Err (errors.Fault x)) new widths h = absurd h
+      next_within (Err (errors.Size at)) new widths h = absurd h
+
+    -- past the limits it is a fault
+    module _ (past : (c.limits.cells < given.width * given.height) ⊎ (c.limits.bytes < length (answer m (sent_by s.number given)))) where
+      kept_refusal : (x : Fault) × (answer_at m c.limits c.kept ≡ Err x) × (x.kind ≡ Limit)
+      kept_refusal =
+          let r = laws.limited (sent_by s.number given) [] (rw serves.one_measure response.is_sent) past in
+          let same : c.kept ≡ answer m (sent_by s.number given) ++ [] = kept_encoded ∙ sym (append-nil (answer m (sent_by s.number given))) in
+          (r.0, ap (answer_at m c.limits) same ∙ r.1, r.2)
+
+      none_kept : (a : SentAnswer) (rest : List ℕ) → answer_at m c.limits c.kept ≡ Ok (a, rest) → ⊥
+      none_kept a rest is = ok_or_err (a, rest) kept_refusal.0 (answer_at m c.limits c.kept) is kept_refusal.1
+
+      next_beyond : (result : Result (Option Taken) ClientError) (new : ClientValue W) → Steps f c result new → Answered result new
+      next_beyond (Ok (Some outcomes.Shown)) new t = absurd (none_kept t.0 new.kept t.1)
+      next_beyond (Ok (Some (outcomes.Stale at))) new t = absurd (none_kept t.0 new.kept t.1)
+      next_beyond (Ok None) new t =
+          let x : t.0.fault ≡ kept_refusal.0 = err_is t.0.fault kept_refusal.0 (answer_at m c.limits c.kept) t.0.is kept_refusal.1 in
+          let bad : Truncated ≡ Limit = sym t.0.cut ∙ ap (λ (v : Fault). v.kind) x ∙ kept_refusal.2 in
+          absurd (let no_way : ⊥ = cc in no_way)
+      next_beyond (Err (errors.Fault x)) new t = (tt, serves_same f s c new serves (ap (λ (v : ClientValue W). v.surface.widths) t.2) (ap shown_by t.2))
+      next_beyond (Err (errors.Size at)) new t = absurd (none_kept t.0 t.1 t.2)
+      next_beyond (Err errors.Numbers) new t = absurd (none_kept t.0 t.1 t.2)
+      next_beyond (Err errors.Memory) new (inl t) = (tt, serves_same f s c new serves (ap (λ (v : ClientValue W). v.surface.widths) t) (ap shown_by t))
+      next_beyond (Err errors.Memory) new (inr t) = (tt, serves_none f s c new serves t.settings.widths t.number)
+
+    pub responded_next : (result : Result (Option Taken) ClientError) (new : ClientValue W) → TakesNext f c result new → Answered result new
+    responded_next result new t =
+        let step = open_next result new t in
+        elim (cases_lt c.limits.cells (given.width * given.height)) [
+          | inl many ↦ next_beyond (inl many) result new step
+          | inr cells ↦ elim (cases_lt c.limits.bytes (length (answer m (sent_by s.number given)))) [
+            | inl long ↦ next_beyond (inr long) result new step
+            | inr few ↦ next_within cells few result new (step_widths f c result new step) (follows_next f histories (g ∷ []) [] c laws (follows_kept cells few) result new t)
           ]
         ]

@@ -1,7 +1,9 @@
 -- How a client takes one answer, and one after another.
-use Rattle.std.proofs.Common.{◌≡◌, ℕ, Option, Some, inl, inr, ◌<◌, true, false, List, [], ◌∷◌, ◌++◌, ◌-◌, length, take, drop, Result, Ok, Err, refl, sym, ap, subst, ◌∙◌, arith}
+use Rattle.std.proofs.Common.{◌≡◌, ℕ, Option, Some, None, inl, inr, ◌<◌, true, false, List, [], ◌∷◌, ◌++◌, ◌-◌, length, take, drop, Result, Ok, Err, refl, sym, ap, subst, ◌∙◌, arith}
 use Rattle.std.proofs.lemmas.Bool.{true≢false}
 use Rattle.std.proofs.lemmas.List.{length-append, length-drop, take_all}
+use Rattle.std.specs.Option.{is_some}
+use Rattle.std.specs.Prelude.{◌+◌, ◌≤◌, Bool, ◌&&◌, not}
 use Rattle.std.specs.Result.{is_err}
 use Rattle.termwiz_cell.specs.ChangeValue.{ChangeValue}
 use Rattle.termwiz_surface.specs.Unlogged.{AddsUnlogged}
@@ -18,10 +20,12 @@ use Rattle.termwiz_surface.specs.Answer.{AnswerValue, is_repaint, suits}
 use Rattle.termwiz_wire.specs.Answers.{answer_at}
 use Rattle.termwiz_wire.specs.declared.sent.SentAnswer.{SentAnswer}
 use Rattle.termwiz_share.specs.Client.{ClientValue, DisplayValue, SameSettings, Shown, blank_screen, display_of, fits, has_other_size, shown_by, taken}
-use Rattle.termwiz_share.specs.Feeding.{AreCut, HasTaken, Reads, Steps, Takes, TakesAll, nameless, read_of, refusal, unnamed}
+use Rattle.termwiz_share.specs.Feeding.{AreCut, HasTaken, Reads, Steps, Takes, TakesAll, TakesNext, nameless, read_of, refusal, unnamed}
 use Rattle.termwiz_share.specs.Source.{sent_by}
 use Rattle.termwiz_share.specs.declared.error.ClientError.{ClientError}
 use Rattle.termwiz_share.specs.declared.error.ClientError.TheVariants as errors
+use Rattle.termwiz_share.specs.declared.taken.Taken.{Taken}
+use Rattle.termwiz_share.specs.declared.taken.Taken.TheVariants as shows
 use Rattle.termwiz_share.proofs.Fed.{TakesAll-push}
 
 module _ (m : List ℕ → ℕ) (s : Shown) (source : ℕ) (a : AnswerValue) (p : FullScreen) where
@@ -29,39 +33,92 @@ module _ (m : List ℕ → ℕ) (s : Shown) (source : ℕ) (a : AnswerValue) (p 
   shown = record { picture = p; source = source; number = a.number }
 
   -- a repaint is taken from blanks
-  pub repaint_taken : is_repaint a ≡ true → p ≡ played full_screens m (blank_screen a.width a.height) a.changes → (has_other_size s (sent_by source a) ≡ false) × (shown ≡ taken m s (sent_by source a))
-  repaint_taken repaint is = rw repaint (refl, ap (λ (q : FullScreen). record { picture = q; source = source; number = a.number }) is)
+  pub repaint_taken : is_repaint a ≡ true → p ≡ played full_screens m (blank_screen a.width a.height) a.changes → (fits s (sent_by source a) ≡ true) × (has_other_size s (sent_by source a) ≡ false) × (shown ≡ taken m s (sent_by source a))
+  repaint_taken repaint is = rw repaint (refl, refl, ap (λ (q : FullScreen). record { picture = q; source = source; number = a.number }) is)
 
   -- a delta that fits is taken from what is shown
-  pub delta_taken : is_repaint a ≡ false → fits s (sent_by source a) ≡ true → suits s.picture.screen.width s.picture.screen.height a ≡ true → p ≡ played full_screens m s.picture a.changes → (has_other_size s (sent_by source a) ≡ false) × (shown ≡ taken m s (sent_by source a))
-  delta_taken delta fit size is = rw (fit, size, delta) (refl, ap (λ (q : FullScreen). record { picture = q; source = source; number = a.number }) is)
+  pub delta_taken : is_repaint a ≡ false → fits s (sent_by source a) ≡ true → suits s.picture.screen.width s.picture.screen.height a ≡ true → p ≡ played full_screens m s.picture a.changes → (fits s (sent_by source a) ≡ true) × (has_other_size s (sent_by source a) ≡ false) × (shown ≡ taken m s (sent_by source a))
+  delta_taken delta fit size is = rw (fit, size, delta) (refl, refl, ap (λ (q : FullScreen). record { picture = q; source = source; number = a.number }) is)
+
+-- an answer that doesn't fit has no other size, and makes nothing of what is shown
+no_more : (b : Bool) → (b && false) ≡ false
+no_more true = refl
+no_more false = refl
+
+pub no_size : (s : Shown) (a : SentAnswer) → fits s a ≡ false → has_other_size s a ≡ false
+no_size s a unfit = rw unfit (no_more (not (is_repaint a.answer)))
+
+pub none_taken : (m : List ℕ → ℕ) (s : Shown) (a : SentAnswer) → fits s a ≡ false → taken m s a ≡ s
+none_taken m s a unfit = rw unfit refl
 
 module _ {W : Type 0} (f : W → List ℕ → ℕ) where
   settings_then : (a b c : ClientValue W) → SameSettings a b → SameSettings b c → SameSettings a c
   settings_then a b c first second = record { widths = second.widths ∙ first.widths; limits = second.limits ∙ first.limits; stopped = second.stopped ∙ first.stopped }
 
   -- nothing is taken yet
-  pub taken_none : (c : ClientValue W) → HasTaken f c c
+  abbrev pub taken_none : (c : ClientValue W) → HasTaken f c c
   taken_none c = record { given = []; takes = (refl, refl); settings = record { widths = refl; limits = refl; stopped = refl } }
 
-  -- one answer more is
-  pub taken_more : (old mid new : ClientValue W) → HasTaken f old mid → Steps f mid (Ok true) new → HasTaken f old new
-  taken_more old mid new h s =
+  -- an answer that is off the bytes
+  pub record HasOne (old new : ClientValue W) : Type 0 where
+    pub sent : SentAnswer
+    pub read : read_of f old ≡ Ok (sent, new.kept)
+    pub size : has_other_size (shown_by old) sent ≡ false
+    pub shows : shown_by new ≡ taken (f old.surface.widths) (shown_by old) sent
+    pub settings : SameSettings old new
+
+  pub one_of : (old new : ClientValue W) (t : Taken) → Steps f old (Ok (Some t)) new → HasOne old new
+  one_of old new shows.Shown s = record { sent = s.0; read = s.1; size = s.3; shows = s.4; settings = s.5 }
+  one_of old new (shows.Stale at) s = record {
+    sent = s.0;
+    read = s.1;
+    size = no_size (shown_by old) s.0 s.2;
+    shows = ap shown_by s.4 ∙ sym (none_taken (f old.surface.widths) (shown_by old) s.0 s.2);
+    settings = record { widths = ap (λ (c : ClientValue W). c.surface.widths) s.4; limits = ap (λ (c : ClientValue W). c.limits) s.4; stopped = ap (λ (c : ClientValue W). c.stopped) s.4 };
+  }
+
+  -- one answer more is taken
+  abbrev taken_one : (old mid new : ClientValue W) → HasTaken f old mid → HasOne mid new → HasTaken f old new
+  taken_one old mid new h s =
       let m : List ℕ → ℕ = f old.surface.widths in
-      let is : answer_at m old.limits mid.kept ≡ Ok (s.0, new.kept) = rw (ap f h.settings.widths, h.settings.limits) at s.1 in
-      let shown : shown_by new ≡ taken m (shown_by mid) s.0 = rw (ap f h.settings.widths) at s.3 in
+      let is : answer_at m old.limits mid.kept ≡ Ok (s.sent, new.kept) = rw (ap f h.settings.widths, h.settings.limits) at s.read in
+      let shown : shown_by new ≡ taken m (shown_by mid) s.sent = rw (ap f h.settings.widths) at s.shows in
       record {
-        given = h.given ++ s.0 ∷ [];
-        takes = subst (λ (v : Shown). TakesAll m old.limits (shown_by old) old.kept (h.given ++ s.0 ∷ []) v new.kept) (sym shown)
-            (TakesAll-push m old.limits (shown_by old) old.kept h.given (shown_by mid) mid.kept s.0 new.kept h.takes is s.2);
-        settings = settings_then old mid new h.settings s.4;
+        given = h.given ++ s.sent ∷ [];
+        takes = subst (λ (v : Shown). TakesAll m old.limits (shown_by old) old.kept (h.given ++ s.sent ∷ []) v new.kept) (sym shown)
+            (TakesAll-push m old.limits (shown_by old) old.kept h.given (shown_by mid) mid.kept s.sent new.kept h.takes is s.size);
+        settings = settings_then old mid new h.settings s.settings;
       }
 
-  pub reads_all : (old mid new : ClientValue W) → HasTaken f old mid → Steps f mid (Ok false) new → Reads f old (Ok tt) new
-  reads_all old mid new h s = record { mid = mid; has_taken = h; ends = s }
+  -- so many answers are taken of the bytes of a client that takes more
+  pub record HasCounted (old : ClientValue W) (count : ℕ) (mid : ClientValue W) : Type 0 where
+    pub has_taken : HasTaken f old mid
+    pub counted : count ≡ length has_taken.given
+    pub few : count + length mid.kept ≤ length old.kept
 
-  pub reads_some : (old mid new : ClientValue W) (e : ClientError) → HasTaken f old mid → Steps f mid (Err e) new → Reads f old (Err e) new
-  reads_some old mid new e h s = record { mid = mid; has_taken = h; ends = s }
+  pub counted_none : (c : ClientValue W) → HasCounted c 0 c
+  counted_none c = record { has_taken = taken_none c; counted = refl; few = omega arith }
+
+  next_is : (old mid new : ClientValue W) (r : Result (Option Taken) ClientError) → old.stopped ≡ None → HasTaken f old mid → TakesNext f mid r new → Steps f mid r new
+  next_is old mid new r reading h (inl t) = absurd (let stopped : mid.stopped ≡ None = h.settings.stopped ∙ reading in let bad : Some t.0 ≡ None = sym t.1 ∙ stopped in let no_way : ⊥ = cc in no_way)
+  next_is old mid new r reading h (inr t) = t.1
+
+  pub counted_more : (old mid new : ClientValue W) (count : ℕ) (o : Option Taken) → old.stopped ≡ None → HasCounted old count mid → TakesNext f mid (Ok o) new → length new.kept < length mid.kept → (b : Bool) → b ≡ is_some o → b ≡ true → HasCounted old (count + 1) new
+  counted_more old mid new count None reading h t shorter b is some = absurd (true≢false (sym some ∙ is))
+  counted_more old mid new count (Some x) reading h t shorter b is some =
+      let one : HasOne mid new = one_of mid new x (next_is old mid new (Ok (Some x)) reading h.has_taken t) in
+      record {
+        has_taken = taken_one old mid new h.has_taken one;
+        counted = omega (arith, h.counted, length-append h.has_taken.given (one.sent ∷ []));
+        few = omega (arith, h.few, shorter);
+      }
+
+  pub reads_all : (old mid new : ClientValue W) (count : ℕ) (o : Option Taken) → old.stopped ≡ None → HasCounted old count mid → TakesNext f mid (Ok o) new → (b : Bool) → b ≡ is_some o → b ≡ false → Reads f old (Ok count) new
+  reads_all old mid new count (Some x) reading h t b is none = absurd (true≢false (sym is ∙ none))
+  reads_all old mid new count None reading h t b is none = record { mid = mid; has_taken = h.has_taken; ends = (h.counted, next_is old mid new (Ok None) reading h.has_taken t) }
+
+  pub reads_some : (old mid new : ClientValue W) (count : ℕ) (e : ClientError) → old.stopped ≡ None → HasCounted old count mid → TakesNext f mid (Err e) new → Reads f old (Err e) new
+  reads_some old mid new count e reading h t = record { mid = mid; has_taken = h.has_taken; ends = next_is old mid new (Err e) reading h.has_taken t }
 
 -- each answer has a byte
 pub some_bytes : (m : List ℕ → ℕ) (a : SentAnswer) → 0 < length (answer m a)
@@ -99,6 +156,14 @@ unnamed_is {W = W} old new shown kept limits stopped =
     let is : record { surface = new.surface; source = new.source; number = new.number; kept = new.kept; limits = new.limits; stopped = new.stopped } ≡ unnamed old = rw (surface, source, number, kept, limits, stopped) refl in
     is
 
+-- and one that shows it with other bytes left
+same_left : {W : Type 0} (old new : ClientValue W) → display_of new ≡ display_of old → new.limits ≡ old.limits → new.stopped ≡ old.stopped → new ≡ record old { kept = new.kept }
+same_left {W = W} old new shown limits stopped =
+    let surface : new.surface ≡ old.surface = ap (λ (d : DisplayValue W). d.surface) shown in
+    let source : new.source ≡ old.source = ap (λ (d : DisplayValue W). d.source) shown in
+    let number : new.number ≡ old.number = ap (λ (d : DisplayValue W). d.number) shown in
+    rw (← surface, ← source, ← number, ← limits, ← stopped) refl
+
 -- an answer that is not taken stops the client before it
 pub takes_stop : {W : Type 0} (f : W → List ℕ → ℕ) (old : ClientValue W) (a : SentAnswer) (rest : List ℕ) (e : ClientError) (new : ClientValue W) → read_of f old ≡ Ok (a, rest) → Takes f (display_of old) a (Err e) (display_of new) → new.kept ≡ old.kept → new.limits ≡ old.limits → new.stopped ≡ refusal old.stopped e → Steps f old (Err e) new
 takes_stop f old a rest (errors.Fault x) new is t kept limits stopped = absurd t
@@ -108,8 +173,9 @@ takes_stop f old a rest errors.Memory new is (inl same) kept limits stopped = in
 takes_stop f old a rest errors.Memory new is (inr t) kept limits stopped = inr (record { source = t.source; number = t.number; kept = kept; settings = record { widths = t.widths; limits = limits; stopped = stopped } })
 
 -- an answer that is taken is the next step
-pub takes_step : {W : Type 0} (f : W → List ℕ → ℕ) (old new : ClientValue W) (a : SentAnswer) → read_of f old ≡ Ok (a, new.kept) → Takes f (display_of old) a (Ok tt) (display_of new) → new.limits ≡ old.limits → new.stopped ≡ old.stopped → Steps f old (Ok true) new
-takes_step f old new a is t limits stopped = (a, is, t.0, t.1, record { widths = t.2; limits = limits; stopped = stopped })
+pub takes_step : {W : Type 0} (f : W → List ℕ → ℕ) (old new : ClientValue W) (a : SentAnswer) (t : Taken) → read_of f old ≡ Ok (a, new.kept) → Takes f (display_of old) a (Ok t) (display_of new) → new.limits ≡ old.limits → new.stopped ≡ old.stopped → Steps f old (Ok (Some t)) new
+takes_step f old new a shows.Shown is t limits stopped = (a, is, t.0, t.1, t.2, record { widths = t.3; limits = limits; stopped = stopped })
+takes_step f old new a (shows.Stale at) is t limits stopped = (a, is, t.0, t.1, same_left old new t.2 limits stopped)
 
 -- where all bytes are used, more may make an answer
 none_left : (bytes : List ℕ) (n : ℕ) → n ≡ length bytes → drop n bytes ≡ []

@@ -97,3 +97,13 @@ abbrev pub size_place : Shown → SentAnswer → ℕ
 size_place s a =
     2 + length (unsigned a.source) +
     (if s.picture.screen.width == a.answer.width then length (unsigned a.answer.width) else 0)
+
+-- where in the bytes of an answer that doesn't fit what it leads on from differs from what is
+-- shown: at its source, or else at its base
+abbrev pub stale_place : Shown → SentAnswer → ℕ
+stale_place s a =
+    2 +
+    (if a.source == s.source
+    then
+    length (unsigned a.source) + (length (unsigned a.answer.width) + length (unsigned a.answer.height))
+    else 0)

@@ -1,5 +1,5 @@
 -- What a client makes of the bytes that it is fed.
-use Rattle.std.specs.Prelude.{◌≡◌, ◌≢◌, ◌⊎◌, ℕ, ◌+◌, ◌≤◌, ◌^◌, Bool, true, false, Option, Some, None, List, [], ◌∷◌, ◌++◌, length, Result, Ok, Err, if◌then◌else◌}
+use Rattle.std.specs.Prelude.{◌≡◌, ◌≢◌, ◌⊎◌, ℕ, ◌+◌, ◌≤◌, ◌^◌, true, false, Option, Some, None, List, [], ◌∷◌, ◌++◌, length, Result, Ok, Err, if◌then◌else◌}
 use Rattle.cbor.specs.declared.error.FaultKind.TheVariants.{Truncated}
 use Rattle.termwiz_screen.specs.Log.{next_number}
 use Rattle.termwiz_surface.specs.Answer.{is_repaint}
@@ -7,9 +7,11 @@ use Rattle.termwiz_wire.specs.Answers.{answer_at}
 use Rattle.termwiz_wire.specs.declared.fault.Fault.{Fault}
 use Rattle.termwiz_wire.specs.declared.fault.Limits.{Limits}
 use Rattle.termwiz_wire.specs.declared.sent.SentAnswer.{SentAnswer}
-use Rattle.termwiz_share.specs.Client.{ClientValue, DisplayValue, SameSettings, Shown, display_of, fits, has_other_size, shown_by, shown_on, size_place, taken}
+use Rattle.termwiz_share.specs.Client.{ClientValue, DisplayValue, SameSettings, Shown, display_of, fits, has_other_size, shown_by, shown_on, size_place, stale_place, taken}
 use Rattle.termwiz_share.specs.declared.error.ClientError.{ClientError}
 use Rattle.termwiz_share.specs.declared.error.ClientError.TheVariants as errors
+use Rattle.termwiz_share.specs.declared.taken.Taken.{Taken}
+use Rattle.termwiz_share.specs.declared.taken.Taken.TheVariants as shows
 
 module _ (measure : List ℕ → ℕ) (limits : Limits) where
   -- whoever shows s takes the answers that are decoded from the front of the bytes, one behind
@@ -39,6 +41,14 @@ module _ {W : Type 0} where
   -- it has these bytes behind those that it had
   abbrev pub with_bytes : ClientValue W → List ℕ → ClientValue W
   with_bytes c piece = record c { kept = c.kept ++ piece }
+
+  -- bytes are kept, or it takes none: it has stopped before, or stops for want of memory
+  abbrev pub Keeps :
+      ClientValue W → List ℕ → Result (Unit {0}) ClientError → ClientValue W → Type 0
+  Keeps old piece (Ok u) new = (old.stopped ≡ None) × (new ≡ with_bytes old piece)
+  Keeps old piece (Err e) new =
+      ((old.stopped ≡ Some e) × (new ≡ old)) ⊎
+      ((old.stopped ≡ None) × (e ≡ errors.Memory) × (new ≡ stopped_by old errors.Memory))
 
   -- it shows what it showed, and that has no source and no number
   abbrev pub unnamed : ClientValue W → ClientValue W
@@ -70,13 +80,15 @@ module _ {W : Type 0} where
         (if is_repaint a.answer then 1 else 0)
 
   module _ (measure_of : W → List ℕ → ℕ) where
-    -- a display takes an answer
+    -- a display takes an answer, or leaves one that doesn't fit
     abbrev pub Takes :
-        DisplayValue W → SentAnswer → Result (Unit {0}) ClientError → DisplayValue W → Type 0
-    Takes old a (Ok u) new =
-        (has_other_size (shown_on old) a ≡ false) ×
+        DisplayValue W → SentAnswer → Result Taken ClientError → DisplayValue W → Type 0
+    Takes old a (Ok shows.Shown) new =
+        (fits (shown_on old) a ≡ true) × (has_other_size (shown_on old) a ≡ false) ×
         (shown_on new ≡ taken (measure_of old.surface.widths) (shown_on old) a) ×
         (new.surface.widths ≡ old.surface.widths)
+    Takes old a (Ok (shows.Stale at)) new =
+        (fits (shown_on old) a ≡ false) × (at ≡ stale_place (shown_on old) a) × (new ≡ old)
     Takes old a (Err (errors.Fault f)) new = ⊥
     Takes old a (Err (errors.Size at)) new =
         (has_other_size (shown_on old) a ≡ true) × (at ≡ size_place (shown_on old) a) × (new ≡ old)
@@ -87,14 +99,18 @@ module _ {W : Type 0} where
     abbrev pub read_of : ClientValue W → Result (SentAnswer × List ℕ) Fault
     read_of c = answer_at (measure_of c.surface.widths) c.limits c.kept
 
-    -- the client takes the next answer, or there is none
-    abbrev pub Steps : ClientValue W → Result Bool ClientError → ClientValue W → Type 0
-    Steps old (Ok true) new =
-        (a : SentAnswer) × (read_of old ≡ Ok (a, new.kept)) ×
+    -- the client takes the next answer, or leaves one that doesn't fit, or there is none
+    abbrev pub Steps :
+        ClientValue W → Result (Option Taken) ClientError → ClientValue W → Type 0
+    Steps old (Ok (Some shows.Shown)) new =
+        (a : SentAnswer) × (read_of old ≡ Ok (a, new.kept)) × (fits (shown_by old) a ≡ true) ×
         (has_other_size (shown_by old) a ≡ false) ×
         (shown_by new ≡ taken (measure_of old.surface.widths) (shown_by old) a) ×
         SameSettings old new
-    Steps old (Ok false) new =
+    Steps old (Ok (Some (shows.Stale at))) new =
+        (a : SentAnswer) × (read_of old ≡ Ok (a, new.kept)) × (fits (shown_by old) a ≡ false) ×
+        (at ≡ stale_place (shown_by old) a) × (new ≡ record old { kept = new.kept })
+    Steps old (Ok None) new =
         AreCut (measure_of old.surface.widths) old.limits old.kept × (new ≡ old)
     Steps old (Err (errors.Fault f)) new =
         (read_of old ≡ Err f) × (f.kind ≢ Truncated) × (new ≡ stopped_by old (errors.Fault f))
@@ -116,21 +132,20 @@ module _ {W : Type 0} where
           (shown_by new) new.kept
       pub settings : SameSettings old new
 
-    -- how it ends, where there is no next one, or that isn't taken
-    abbrev pub Ends : ClientValue W → Result (Unit {0}) ClientError → ClientValue W → Type 0
-    Ends old (Ok u) new = Steps old (Ok false) new
-    Ends old (Err e) new = Steps old (Err e) new
+    -- how it ends after so many, where there is no next one, or that isn't taken
+    abbrev pub Ends : ClientValue W → ℕ → Result ℕ ClientError → ClientValue W → Type 0
+    Ends old count (Ok n) new = (n ≡ count) × Steps old (Ok None) new
+    Ends old count (Err e) new = Steps old (Err e) new
 
     -- it takes all answers of its bytes, or stops before one
-    pub record Reads (old : ClientValue W) (result : Result (Unit {0}) ClientError)
-        (new : ClientValue W) : Type 0 where
+    pub record Reads (old : ClientValue W) (result : Result ℕ ClientError) (new : ClientValue W) :
+        Type 0 where
       pub mid : ClientValue W
       pub has_taken : HasTaken old mid
-      pub ends : Ends mid result new
+      pub ends : Ends mid (length has_taken.given) result new
 
     -- bytes are fed to it
-    abbrev pub Feeds :
-        ClientValue W → List ℕ → Result (Unit {0}) ClientError → ClientValue W → Type 0
+    abbrev pub Feeds : ClientValue W → List ℕ → Result ℕ ClientError → ClientValue W → Type 0
     Feeds old piece result new =
         -- it takes none, since it has stopped before
         ((e : ClientError) × (old.stopped ≡ Some e) × (result ≡ Err e) × (new ≡ old))
@@ -140,3 +155,21 @@ module _ {W : Type 0} where
         (new ≡ stopped_by old errors.Memory))
         -- or it reads them
         ⊎ ((old.stopped ≡ None) × Reads (with_bytes old piece) result new)
+
+    -- the client takes at most one answer of the bytes that it keeps
+    abbrev pub TakesNext :
+        ClientValue W → Result (Option Taken) ClientError → ClientValue W → Type 0
+    TakesNext old result new =
+        -- it takes none, since it has stopped before
+        ((e : ClientError) × (old.stopped ≡ Some e) × (result ≡ Err e) × (new ≡ old))
+        -- or it reads them
+        ⊎ ((old.stopped ≡ None) × Steps old result new)
+
+    -- what comes of a stream that ends here: the client keeps nothing, or a whole answer, or the
+    -- bytes make none
+    abbrev pub EndsHere : ClientValue W → Result (Unit {0}) ClientError → Type 0
+    EndsHere c (Ok u) =
+        (c.kept ≡ []) ⊎ ((a : SentAnswer) × (rest : List ℕ) × (read_of c ≡ Ok (a, rest)))
+    EndsHere c (Err (errors.Fault f)) = (c.kept ≢ []) × (read_of c ≡ Err f)
+    EndsHere c (Err errors.Memory) = Unit {0}
+    EndsHere c (Err _) = ⊥

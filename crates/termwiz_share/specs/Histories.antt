@@ -1,6 +1,6 @@
 -- Streams of answers of many sources, and what a client shows of them. Each source has a history,
 -- which says what its numbers name.
-use Rattle.std.specs.Prelude.{◌≡◌, ◌⊎◌, ℕ, ◌*◌, ◌<◌, ◌≤◌, List, [], ◌∷◌, ◌++◌, length, None, Result, Ok, Err, fold, if◌then◌else◌}
+use Rattle.std.specs.Prelude.{◌≡◌, ◌⊎◌, ℕ, ◌*◌, ◌<◌, ◌≤◌, true, false, List, [], ◌∷◌, ◌++◌, length, Option, Some, None, Result, Ok, Err, fold, if◌then◌else◌}
 use Rattle.std.specs.List.{AllByRecursion, flat_map}
 use Rattle.termwiz_screen.specs.FullScreen.{FullScreen, HasFullSize}
 use Rattle.termwiz_screen.specs.Picture.{full_screens}
@@ -9,9 +9,11 @@ use Rattle.termwiz_surface.specs.History.{Names}
 use Rattle.termwiz_wire.specs.Sent.{IsSent, answer}
 use Rattle.termwiz_wire.specs.declared.fault.Limits.{Limits}
 use Rattle.termwiz_wire.specs.declared.sent.SentAnswer.{SentAnswer}
-use Rattle.termwiz_share.specs.Client.{ClientValue, Shown, fits, shown_by}
+use Rattle.termwiz_share.specs.Client.{ClientValue, Shown, fits, shown_by, stale_place}
 use Rattle.termwiz_share.specs.declared.error.ClientError.{ClientError}
 use Rattle.termwiz_share.specs.declared.error.ClientError.TheVariants as errors
+use Rattle.termwiz_share.specs.declared.taken.Taken.{Taken}
+use Rattle.termwiz_share.specs.declared.taken.Taken.TheVariants as shows
 
 -- an answer, and the full screen that its source had when it gave it
 pub record Given : Type 0 where
@@ -62,10 +64,11 @@ module _ {W : Type 0} (measure_of : W → List ℕ → ℕ) (histories : ℕ →
     pub whole : c.kept ++ bytes ≡ stream (measure_of c.surface.widths) sent
     pub named : IsNamed histories (shown_by c)
 
-  -- some are taken, and the client shows what the last one that fits was given for; of the others
-  -- there is no whole one
-  pub record HasFollowed (future : List ℕ) (old new : ClientValue W) : Type 0 where
+  -- so many are taken, and the client shows what the last one that fits was given for; of the
+  -- others there is no whole one
+  pub record HasFollowed (future : List ℕ) (count : ℕ) (old new : ClientValue W) : Type 0 where
     pub given : List Given
+    pub counted : count ≡ length given
     pub others : List Given
     pub all : sent ≡ given ++ others
     pub left : new.kept ++ future ≡ stream (measure_of new.surface.widths) others
@@ -83,9 +86,39 @@ module _ {W : Type 0} (measure_of : W → List ℕ → ℕ) (histories : ℕ →
     pub named : IsNamed histories (shown_by new)
 
   -- nothing but want of memory or of numbers keeps it from taking all that are whole
-  abbrev pub FollowsTo :
-      List ℕ → ClientValue W → Result (Unit {0}) ClientError → ClientValue W → Type 0
-  FollowsTo future old (Ok u) new = HasFollowed future old new
+  abbrev pub FollowsTo : List ℕ → ClientValue W → Result ℕ ClientError → ClientValue W → Type 0
+  FollowsTo future old (Ok n) new = HasFollowed future n old new
   FollowsTo future old (Err errors.Numbers) new = HasStopped old new
   FollowsTo future old (Err errors.Memory) new = HasStopped old new
   FollowsTo future old (Err _) new = ⊥
+
+-- of one answer at a time
+module _ {W : Type 0} (measure_of : W → List ℕ → ℕ) (histories : ℕ → ℕ → FullScreen)
+    (sent : List Given) where
+  -- the first one is taken, and the client follows the others
+  pub record HasTakenFirst (future : List ℕ) (new : ClientValue W) : Type 0 where
+    pub first : Given
+    pub others : List Given
+    pub all : sent ≡ first ∷ others
+    pub follows : Follows measure_of histories others new future
+
+  -- it shows what it showed, or what it shows has no number
+  pub record HasKept (old new : ClientValue W) : Type 0 where
+    pub shows : (shown_by new ≡ shown_by old) ⊎ (new.number ≡ 0)
+    pub named : IsNamed histories (shown_by new)
+
+  -- the next one shows what it was given for, or doesn't fit, or isn't whole; and nothing but want
+  -- of memory or of numbers keeps it from being taken
+  abbrev pub FollowsNext :
+      List ℕ → ClientValue W → Result (Option Taken) ClientError → ClientValue W → Type 0
+  FollowsNext future old (Ok (Some shows.Shown)) new =
+      (one : HasTakenFirst future new) × (fits (shown_by old) one.first.sent ≡ true) ×
+      (shown_by new ≡ after (shown_by old) one.first)
+  FollowsNext future old (Ok (Some (shows.Stale at))) new =
+      (one : HasTakenFirst future new) × (fits (shown_by old) one.first.sent ≡ false) ×
+      (at ≡ stale_place (shown_by old) one.first.sent) × (shown_by new ≡ shown_by old)
+  FollowsNext future old (Ok None) new =
+      HasMore (measure_of old.surface.widths) sent old.kept × (new ≡ old)
+  FollowsNext future old (Err errors.Numbers) new = HasKept old new
+  FollowsNext future old (Err errors.Memory) new = HasKept old new
+  FollowsNext future old (Err _) new = ⊥

@@ -8,7 +8,7 @@ pub use Rattle.std.specs.Prelude.{IfErr, IfOk, OnErr, OnOk, length, map, true}
 pub use Rattle.termwiz_cell.specs.ChangeValue.{change_value}
 pub use Rattle.termwiz_cell.specs.Measure.{measure}
 pub use Rattle.termwiz_screen.specs.FullScreen.{FullScreen, full_replay}
-pub use Rattle.termwiz_screen.specs.Log.{next_number}
+pub use Rattle.termwiz_screen.specs.Log.{flushed, next_number}
 pub use Rattle.termwiz_surface.specs.Adding.{Adds, with_log}
 pub use Rattle.termwiz_surface.specs.Answer.{is_repaint, suits}
 pub use Rattle.termwiz_surface.specs.Copies.{IsCopied, IsRegionDrawn, IsDrawn, copied_region}
@@ -24,9 +24,8 @@ pub use Rattle.termwiz_wire.specs.Answers.{answer_at}
 pub use Rattle.termwiz_wire.specs.Lent.{lent_answer}
 pub use Rattle.termwiz_wire.specs.Sent.{IsAsk, ask}
 pub use Rattle.termwiz_wire.specs.declared.fault.Fault.{Fault}
-pub use Rattle.termwiz_share.specs.declared.error.ClientError.TheVariants.{Memory}
-pub use Rattle.termwiz_share.specs.Source.{Answers, IsResponse, Responds, SourceValue, most_bytes, sent_by, trimmed}
-pub use Rattle.termwiz_share.specs.Client.{ClientValue, DisplayValue, IsReady, ask_of, fits, shown_by, shown_on, size_place}
-pub use Rattle.termwiz_share.specs.Feeding.{Feeds, Reads, Steps, Takes, nameless, refusal, stopped_by, with_bytes}
-pub use Rattle.termwiz_share.specs.Histories.{Follows, FollowsTo, Given}
+pub use Rattle.termwiz_share.specs.Source.{Answers, IsResponse, Responds, SourceValue, most_bytes, response_bytes, sent_by, trimmed}
+pub use Rattle.termwiz_share.specs.Client.{ClientValue, DisplayValue, IsReady, ask_of, fits, shown_by, shown_on, size_place, stale_place}
+pub use Rattle.termwiz_share.specs.Feeding.{EndsHere, Feeds, Keeps, Reads, Steps, Takes, TakesNext, nameless, refusal}
+pub use Rattle.termwiz_share.specs.Histories.{Follows, FollowsNext, FollowsTo, Given}
 pub use Rattle.termwiz_share.specs.Serving.{KeepsClients, KeepsSources, Serves, Shows}

@@ -1,11 +1,11 @@
 -- What contracts see of a source, and what it answers.
-use Rattle.std.specs.Prelude.{◌≡◌, ◌⊎◌, ℕ, ◌+◌, ◌*◌, ◌<◌, ◌≤◌, ◌^◌, List, ◌++◌, length, max}
+use Rattle.std.specs.Prelude.{◌≡◌, ◌⊎◌, ℕ, ◌+◌, ◌*◌, ◌<◌, ◌≤◌, ◌^◌, ◌==◌, ◌&&◌, nat_le, Bool, List, ◌++◌, length, max, if◌then◌else◌}
 use Rattle.termwiz_screen.specs.FullScreen.{FullScreen, HasFullSize}
-use Rattle.termwiz_screen.specs.Log.{delta_limit, next_number}
+use Rattle.termwiz_screen.specs.Log.{delta_limit, due, next_number}
 use Rattle.termwiz_screen.specs.Picture.{full_screens}
 use Rattle.termwiz_surface.specs.Adding.{with_log}
 use Rattle.termwiz_surface.specs.Answer.{AnswerValue}
-use Rattle.termwiz_surface.specs.Asking.{forgotten, own_repaint}
+use Rattle.termwiz_surface.specs.Asking.{forgotten, knows, own_repaint}
 use Rattle.termwiz_surface.specs.Carried.{CarriesTo, IsGivenBy, IsPastOf}
 use Rattle.termwiz_surface.specs.Surface.{SurfaceValue, full_of}
 use Rattle.termwiz_wire.specs.Sent.{IsSent, answer}
@@ -27,6 +27,10 @@ sent_by source a = record { source = source; answer = a }
 abbrev pub most_bytes : ℕ → ℕ → ℕ
 most_bytes w h = 64 + 4 * (w * h)
 
+-- the number of a source that an ask names, or 0 where it names none of this source
+abbrev pub number_asked : ℕ → Ask → ℕ
+number_asked source ask = if ask.source == source then ask.number else 0
+
 module _ {W : Type 0} where
   -- the surface without the changes that no answer needs
   abbrev pub trimmed : SurfaceValue W → SurfaceValue W
@@ -43,12 +47,42 @@ module _ {W : Type 0} where
         changes = own_repaint s;
       }
 
+  -- the changes that are due from a number on
+  abbrev pub delta_of : SurfaceValue W → ℕ → AnswerValue
+  delta_of s n =
+      record {
+        width = s.width;
+        height = s.height;
+        base = n;
+        number = next_number s.log;
+        changes = due s.log n;
+      }
+
   module _ (measure_of : W → List ℕ → ℕ) where
+    -- an answer of the source as bytes
+    abbrev pub bytes_of : SourceValue W → AnswerValue → List ℕ
+    bytes_of s a = answer (measure_of s.surface.widths) (sent_by s.number a)
+
+    -- the number is known, and what is due from it on is worth sending
+    abbrev pub has_delta : SourceValue W → ℕ → Bool
+    has_delta s n =
+        knows s.surface n &&
+        nat_le (length (bytes_of s (delta_of s.surface n)))
+        (most_bytes s.surface.width s.surface.height)
+
+    -- what the source gives for a number
+    abbrev pub given_for : SourceValue W → ℕ → AnswerValue
+    given_for s n = if has_delta s n then delta_of s.surface n else repaint_of s.surface
+
+    -- and for an ask, as bytes
+    abbrev pub response_bytes : SourceValue W → Ask → List ℕ
+    response_bytes s ask = bytes_of s (given_for s (number_asked s.number ask))
+
     -- the bytes are those of an answer for this ask: it leads to the full screen that the source
     -- has now, from the picture that the ask names or from none
     pub record IsResponse (s : SourceValue W) (ask : Ask) (bytes : List ℕ) : Type 0 where
       pub given : AnswerValue
-      pub encoded : bytes ≡ answer (measure_of s.surface.widths) (sent_by s.number given)
+      pub encoded : bytes ≡ bytes_of s given
       pub is_sent : IsSent (measure_of s.surface.widths) (sent_by s.number given)
       pub width : given.width ≡ s.surface.width
       pub height : given.height ≡ s.surface.height
@@ -61,7 +95,7 @@ module _ {W : Type 0} where
       -- a screen bounds it
       pub few :
           length bytes ≤ max (most_bytes s.surface.width s.surface.height)
-          (length (answer (measure_of s.surface.widths) (sent_by s.number (repaint_of s.surface))))
+          (length (bytes_of s (repaint_of s.surface)))
 
     -- the source gives this answer for a number, or for none
     pub record Answers (s : SourceValue W) (n : ℕ) (given : AnswerValue) : Type 0 where
@@ -71,10 +105,10 @@ module _ {W : Type 0} where
       pub sized : HasFullSize s.surface.width s.surface.height (full_of s.surface)
       -- a screen bounds it, if a buffer can have it
       pub few :
-          length (answer (measure_of s.surface.widths) (sent_by s.number given)) < 2 ^ 64 →
-          length (answer (measure_of s.surface.widths) (sent_by s.number given)) ≤ max
-          (most_bytes s.surface.width s.surface.height)
-          (length (answer (measure_of s.surface.widths) (sent_by s.number (repaint_of s.surface))))
+          length (bytes_of s given) < 2 ^ 64 →
+          length (bytes_of s given) ≤ max (most_bytes s.surface.width s.surface.height)
+          (length (bytes_of s (repaint_of s.surface)))
+      pub chosen : length (bytes_of s given) < 2 ^ 64 → given ≡ given_for s n
 
     -- the response comes behind what the buffer had
     pub record Responds (s : SourceValue W) (ask : Ask) (before after : List ℕ) : Type 0 where

@@ -1,16 +1,17 @@
 //! Clients: what takes the answers of sources, and shows what they had.
-ghost use Rattle.std.specs.Prelude.{◌≡◌, ◌<◌, ◌++◌, [], IfErr, IfOk, List, None, OnErr, OnOk, ℕ};
-ghost use Rattle.std.specs.Prelude.{length};
-ghost use Rattle.termwiz_share.specs.{ClientValue, Feeds, Follows, FollowsTo, FullScreen, Given};
-ghost use Rattle.termwiz_share.specs.{IsAsk, IsReady, IsResponse, KeepsSources, NumbersRows};
-ghost use Rattle.termwiz_share.specs.{Reads, Serves, Shows, SourceValue, Steps};
-ghost use Rattle.termwiz_share.specs.{Memory, ask, ask_of, blank_surface, measure, refusal};
-ghost use Rattle.termwiz_share.specs.{stopped_by, true, with_bytes};
+ghost use Rattle.std.specs.Prelude.{◌≡◌, ◌<◌, ◌^◌, ◌++◌, [], IfOk, IsSome, List, None, Ok, OnErr};
+ghost use Rattle.std.specs.Prelude.{OnOk, Some, length, ℕ};
+ghost use Rattle.termwiz_share.specs.{ClientValue, EndsHere, Feeds, Follows, FollowsNext};
+ghost use Rattle.termwiz_share.specs.{FollowsTo, FullScreen, Given, IsAsk, IsReady, IsResponse, Keeps};
+ghost use Rattle.termwiz_share.specs.{KeepsSources, NumbersRows, Reads, Serves, Shows};
+ghost use Rattle.termwiz_share.specs.{SourceValue, Steps, TakesNext};
+ghost use Rattle.termwiz_share.specs.{ask, ask_of, blank_surface, measure, refusal, true};
 
 mod display;
 
 use crate::error::ClientError;
 use crate::store::append;
+use crate::taken::Taken;
 use display::Display;
 use std::alloc::{AllocError, Global};
 use std::marker::Model;
@@ -18,7 +19,8 @@ use termwiz_cell::change::SequenceNo;
 use termwiz_cell::emoji::Widths;
 use termwiz_surface::Surface;
 use termwiz_wire::{
-    Ask, Begun, Limits, NoAnswer, SourceNo, WireError, answers, decode_more, encode_ask,
+    Ask, Begun, Limits, NoAnswer, SourceNo, WireError, answers, decode_answer, decode_more,
+    encode_ask,
 };
 
 /// Shows what a source showed when it gave the last answer that was taken.
@@ -157,10 +159,11 @@ impl<W: Widths> Client<W> {
     }
 
     /// Takes the next bytes of the stream, in whatever chunks they come, and the answers that are
-    /// whole then.
+    /// whole then. It returns how many those are; one that is stale and changes nothing counts too.
     ///
-    /// Each of the errors says what it leaves.
-    pub fn feed(&mut self, piece: &[u8]) -> Result<(), ClientError>
+    /// Each of the errors says what it leaves. It is `keep`, and then `take_answer` until there is
+    /// none.
+    pub fn feed(&mut self, piece: &[u8]) -> Result<usize, ClientError>
         // Whatever the bytes are.
         ensures feeds { Feeds (measure W.width_of) self.old piece.now result self.new }
         // Of a stream of answers, of any sources and in any order, it shows what the last one that
@@ -182,19 +185,26 @@ impl<W: Widths> Client<W> {
         ensures numbered { NumbersRows self.old.surface self.new.surface }
     {
         answers();
-        if let Some(error) = self.stopped {
-            return Err(error);
-        }
         self.keep(piece)?;
         self.take_all()
     }
 
-    // Keeps the bytes after those that are kept.
-    fn keep(&mut self, piece: &[u8]) -> Result<(), ClientError>
-        ensures ok { OnOk result (self.new ≡ with_bytes self.old piece.now) }
-        ensures err { IfErr result (λ error.
-            (error ≡ Memory) × (self.new ≡ stopped_by self.old Memory)) }
+    /// Keeps the next bytes of the stream behind those that it keeps, and takes no answer. Where
+    /// memory is refused it takes no more bytes, until `reset`.
+    pub fn keep(&mut self, piece: &[u8]) -> Result<(), ClientError>
+        ensures keeps { Keeps self.old piece.now result self.new }
+        // The stream that it follows goes on behind them.
+        ensures follows { (histories : ℕ → ℕ → FullScreen) (sent : List Given) (future : List ℕ) →
+            Follows (measure W.width_of) histories sent self.old (piece.now ++ future) →
+            OnOk result (Follows (measure W.width_of) histories sent self.new future) }
+        // Memory has them, and the limits allow some.
+        ensures few { OnOk result (length self.new.kept < 2 ^ 64) }
+        ensures some { 0 < self.old.limits.bytes }
+        ensures serves { KeepsSources (measure W.width_of) self.old self.new }
     {
+        if let Some(error) = self.stopped {
+            return Err(error);
+        }
         if append(&mut self.bytes, &mut self.start, piece).is_err() {
             self.stopped = Some(ClientError::Memory);
             return Err(ClientError::Memory);
@@ -202,41 +212,87 @@ impl<W: Widths> Client<W> {
         Ok(())
     }
 
-    // Takes the answers that are whole.
-    fn take_all(&mut self) -> Result<(), ClientError>
-        ensures reads { Reads (measure W.width_of) self.old result self.new }
+    /// Takes the next answer of the bytes that it keeps, or returns `None` where they make no whole
+    /// one.
+    ///
+    /// Each of the errors says what it leaves.
+    pub fn take_answer(&mut self) -> Result<Option<Taken>, ClientError>
+        // Whatever the bytes are.
+        ensures takes { TakesNext (measure W.width_of) self.old result self.new }
+        // Of a stream of answers it takes the next one, and fails for want of memory or of numbers
+        // alone.
+        ensures follows { (histories : ℕ → ℕ → FullScreen) (sent : List Given) (future : List ℕ) →
+            Follows (measure W.width_of) histories sent self.old future →
+            FollowsNext (measure W.width_of) histories sent future self.old result self.new }
+        // A client that has the response to its ask shows what the source shows,
+        ensures shows { (source : SourceValue W) → Serves (measure W.width_of) source self.old →
+            self.old.stopped ≡ None →
+            IsResponse (measure W.width_of) source (ask_of self.old) self.old.kept →
+            OnOk result ((result ≡ Ok (Some Taken.Shown)) × Shows source self.new × IsReady self.new) }
+        // and is served by it still, also after an error.
+        ensures serves { (source : SourceValue W) → Serves (measure W.width_of) source self.old →
+            self.old.stopped ≡ None →
+            IsResponse (measure W.width_of) source (ask_of self.old) self.old.kept →
+            Serves (measure W.width_of) source self.new }
+        // Each answer has some bytes, and the limits allow some.
+        ensures some { 0 < self.old.limits.bytes }
+        ensures shorter { IfOk result (λ taken. IsSome taken →
+            length self.new.kept < length self.old.kept) }
+        // A row whose number isn't above one that the client's surface had is as it was then.
         ensures numbered { NumbersRows self.old.surface self.new.surface }
     {
-        'answers: while self.take_next()? {}
-        Ok(())
+        answers();
+        if let Some(error) = self.stopped {
+            return Err(error);
+        }
+        self.take_next()
     }
 
-    // Takes the next answer, or returns whether there is none.
-    fn take_next(&mut self) -> Result<bool, ClientError>
+    /// Fails where a stream that ends here ends within an answer: once `take_answer` returns `None`,
+    /// nothing else is kept.
+    pub fn end(&self) -> Result<(), ClientError>
+        ensures { EndsHere (measure W.width_of) self.now result }
+    {
+        let bytes = &self.bytes[self.start..];
+        if bytes.is_empty() {
+            return Ok(());
+        }
+        let widths = self.display.surface().widths();
+        match decode_answer(self.alloc, &widths, self.limits, bytes) {
+            Ok(_) => Ok(()),
+            Err(WireError::Fault(fault)) => Err(ClientError::Fault(fault)),
+            Err(WireError::Memory) => Err(ClientError::Memory),
+        }
+    }
+
+    // Takes the next answer, if there is a whole one.
+    fn take_next(&mut self) -> Result<Option<Taken>, ClientError>
         ensures steps { Steps (measure W.width_of) self.old result self.new }
-        ensures shorter { IfOk result (λ more. more ≡ true →
+        ensures shorter { IfOk result (λ taken. IsSome taken →
             length self.new.kept < length self.old.kept) }
         ensures numbered { NumbersRows self.old.surface self.new.surface }
     {
         answers();
         if self.start == self.bytes.len() {
-            return Ok(false);
+            return Ok(None);
         }
         let widths = self.display.surface().widths();
         let begun = self.begun.take();
         let bytes = &self.bytes[self.start..];
         match decode_more(self.alloc, &widths, self.limits, begun, bytes) {
-            Ok((answer, taken)) => {
-                if let Err(error) = self.display.take(answer) {
-                    self.stopped = refusal(self.stopped, error);
-                    return Err(error);
+            Ok((answer, count)) => match self.display.take(answer) {
+                Ok(taken) => {
+                    self.start += count;
+                    Ok(Some(taken))
                 }
-                self.start += taken;
-                Ok(true)
-            }
+                Err(error) => {
+                    self.stopped = refusal(self.stopped, error);
+                    Err(error)
+                }
+            },
             Err(NoAnswer::Cut(begun)) => {
                 self.begun = begun;
-                Ok(false)
+                Ok(None)
             }
             Err(NoAnswer::Failed(WireError::Memory)) => Err(ClientError::Memory),
             Err(NoAnswer::Failed(WireError::Fault(fault))) => {
@@ -245,6 +301,20 @@ impl<W: Widths> Client<W> {
                 Err(error)
             }
         }
+    }
+
+    // Takes the answers that are whole, and returns how many they are.
+    fn take_all(&mut self) -> Result<usize, ClientError>
+        requires reading { self.old.stopped ≡ None }
+        requires few { length self.old.kept < 2 ^ 64 }
+        ensures reads { Reads (measure W.width_of) self.old result self.new }
+        ensures numbered { NumbersRows self.old.surface self.new.surface }
+    {
+        let mut count = 0;
+        'answers: while self.take_answer()?.is_some() {
+            count += 1;
+        }
+        Ok(count)
     }
 }
 

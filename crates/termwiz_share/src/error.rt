@@ -29,8 +29,8 @@ pub enum ClientError {
     ///
     /// - Where it was refused for the bytes, they are lost: each further call fails so, until
     ///   `reset`.
-    /// - Where it was refused for an answer, the bytes from that answer on are kept: `feed(&[])`
-    ///   goes on. The client shows what it showed, or it may show anything, without a number.
+    /// - Where it was refused for an answer, the bytes from that answer on are kept: `take_answer`
+    ///   and `feed(&[])` go on. The client shows what it showed, or it may show anything, without a number.
     #[error("out of memory")]
     Memory,
 }

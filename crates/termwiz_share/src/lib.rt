@@ -15,7 +15,9 @@ mod client;
 mod error;
 mod source;
 mod store;
+mod taken;
 
 pub use client::Client;
 pub use error::ClientError;
 pub use source::Source;
+pub use taken::Taken;

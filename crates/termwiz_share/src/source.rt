@@ -6,10 +6,10 @@ ghost use Rattle.termwiz_share.specs.{HasCopied, HasDrawn, IsCopied, IsDrawn, Is
 ghost use Rattle.termwiz_share.specs.{IsResponse};
 ghost use Rattle.termwiz_share.specs.{IsSurfaceSize, KeepsClients, KeepsViewers, NumbersRows};
 ghost use Rattle.termwiz_share.specs.{Resizes, Responds, ScrollRegion, Serves, SourceValue};
-ghost use Rattle.termwiz_share.specs.{blank_surface, lent_value};
+ghost use Rattle.termwiz_share.specs.{blank_surface, flushed, lent_value};
 ghost use Rattle.termwiz_share.specs.{change_value, copied_region, length, map, measure};
-ghost use Rattle.termwiz_share.specs.{most_bytes, next_number, rows_scrolled_off, screen_of};
-ghost use Rattle.termwiz_share.specs.{trimmed, true};
+ghost use Rattle.termwiz_share.specs.{most_bytes, next_number, response_bytes};
+ghost use Rattle.termwiz_share.specs.{rows_scrolled_off, screen_of, trimmed, true, with_log};
 
 use std::alloc::{AllocError, Global};
 use std::marker::Model;
@@ -309,15 +309,33 @@ impl<W: Widths> Source<W> {
         self.surface.resize(width, height)
     }
 
-    /// Appends the answer for an ask to a buffer: the changes from the ask's number on, where the
-    /// ask names this source and the log has them, and else a repaint. Where the changes have more
-    /// than 64 bytes and 4 for each cell, it is a repaint too: so the answer has at most as many
-    /// bytes, or those of the repaint.
+    /// Forgets the changes before number `seq`, as `Surface::flush_changes_older_than` does: who
+    /// asks for them is given a repaint.
+    pub fn flush_changes_older_than(&mut self, seq: SequenceNo)
+        ensures flushes { self.new ≡ record self.old {
+          surface = with_log self.old.surface (flushed self.old.surface.log seq);
+        } }
+        ensures serves { KeepsClients (measure W.width_of) self.old self.new }
+        // Each viewer that follows the surface still follows it.
+        ensures followed { KeepsViewers (measure W.width_of) self.old.surface self.new.surface }
+        // A row whose number isn't above one that the surface had is as it was then.
+        ensures numbered { NumbersRows self.old.surface self.new.surface }
+    {
+        self.surface.flush_changes_older_than(seq);
+    }
+
+    /// Appends the answer for an ask to a buffer: a delta, which has the changes from the ask's
+    /// number on, where the ask names this source, the log has these changes, and the whole delta
+    /// has at most 64 bytes and 4 for each cell; and else a repaint.
     ///
     /// After an error the source is as it was, and the buffer begins with what it had.
     pub fn respond(&mut self, ask: Ask, out: &mut Vec<u8>) -> Result<(), AllocError>
         ensures ok { OnOk result (
             Responds (measure W.width_of) self.new ask out.old.items out.new.items) }
+        // It is the delta that is due exactly where the ask names a number of this source that is
+        // known, and the delta has no more bytes than that.
+        ensures given { OnOk result (out.new.items
+            ≡ out.old.items ++ response_bytes (measure W.width_of) self.new ask) }
         // Into an empty buffer it is the response alone.
         ensures alone { out.old.items ≡ [] → OnOk result (
             IsResponse (measure W.width_of) self.new ask out.new.items) }

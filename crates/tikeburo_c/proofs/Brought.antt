@@ -136,20 +136,20 @@ shows_itself None = refl
 
 -- ---- the client is fed
 
-reach_ends : (surface client : Option Kept) (room : ℕ) (result : Result (Unit {0}) ClientError) (old new : FaultFields) (outcome : Outcome) → Reaches result old outcome new → MayCarry surface client room outcome
-reach_ends surface client room (Ok u) old new outcome reaches = subst (MayCarry surface client room) (sym reaches.0) tt
+reach_ends : (surface client : Option Kept) (room : ℕ) (result : Result ℕ ClientError) (old new : FaultFields) (outcome : Outcome) → Reaches result old outcome new → MayCarry surface client room outcome
+reach_ends surface client room (Ok n) old new outcome reaches = subst (MayCarry surface client room) (sym reaches.0) tt
 reach_ends surface client room (Err (errors.Fault e)) old new outcome reaches = subst (MayCarry surface client room) (sym reaches.0) tt
 reach_ends surface client room (Err (errors.Size at)) old new outcome reaches = subst (MayCarry surface client room) (sym reaches.0) tt
 reach_ends surface client room (Err errors.Numbers) old new outcome reaches = subst (MayCarry surface client room) (sym reaches.0) tt
 reach_ends surface client room (Err errors.Memory) old new outcome reaches = subst (MayCarry surface client room) (sym reaches.0) tt
 
-pub feed_ends : (piece : List ℕ) (surface client new : Option Kept) (room : ℕ) (old_fault new_fault : FaultFields) (outcome : Outcome) → IsReadyIn client → FeedsIn piece (client, old_fault) outcome (new, new_fault) → MayCarry surface new room outcome
-feed_ends piece surface (Some (Client c)) (Some (Client d)) room old_fault new_fault outcome ready (result, reaches, feeds) = reach_ends surface (Some (Client d)) room result old_fault new_fault outcome reaches
-feed_ends piece surface (Some (Client c)) (Some (Surface s)) room old_fault new_fault outcome ready none = absurd none
-feed_ends piece surface (Some (Client c)) (Some (Viewer f)) room old_fault new_fault outcome ready none = absurd none
-feed_ends piece surface (Some (Client c)) (Some (Lines l)) room old_fault new_fault outcome ready none = absurd none
-feed_ends piece surface (Some (Client c)) None room old_fault new_fault outcome ready none = absurd none
-feed_ends piece surface (Some (Surface s)) new room old_fault new_fault outcome none fed = absurd none
-feed_ends piece surface (Some (Viewer f)) new room old_fault new_fault outcome none fed = absurd none
-feed_ends piece surface (Some (Lines l)) new room old_fault new_fault outcome none fed = absurd none
-feed_ends piece surface None new room old_fault new_fault outcome none fed = absurd none
+pub feed_ends : (piece : List ℕ) (surface client new : Option Kept) (room : ℕ) (old_written new_written : ℕ × FaultFields) (outcome : Outcome) → IsReadyIn client → FeedsIn piece (client, old_written) outcome (new, new_written) → MayCarry surface new room outcome
+feed_ends piece surface (Some (Client c)) (Some (Client d)) room old_written new_written outcome ready (result, reaches, counts, feeds) = reach_ends surface (Some (Client d)) room result old_written.1 new_written.1 outcome reaches
+feed_ends piece surface (Some (Client c)) (Some (Surface s)) room old_written new_written outcome ready none = absurd none
+feed_ends piece surface (Some (Client c)) (Some (Viewer f)) room old_written new_written outcome ready none = absurd none
+feed_ends piece surface (Some (Client c)) (Some (Lines l)) room old_written new_written outcome ready none = absurd none
+feed_ends piece surface (Some (Client c)) None room old_written new_written outcome ready none = absurd none
+feed_ends piece surface (Some (Surface s)) new room old_written new_written outcome none fed = absurd none
+feed_ends piece surface (Some (Viewer f)) new room old_written new_written outcome none fed = absurd none
+feed_ends piece surface (Some (Lines l)) new room old_written new_written outcome none fed = absurd none
+feed_ends piece surface None new room old_written new_written outcome none fed = absurd none

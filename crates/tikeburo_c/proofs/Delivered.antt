@@ -12,7 +12,7 @@ use Rattle.termwiz_wire.specs.Sent.{IsAsk, ask}
 use Rattle.termwiz_wire.specs.declared.sent.Ask.{Ask}
 use Rattle.tikeburo_c.specs.Outcomes.{Outcome, Reports, status_of}
 use Rattle.tikeburo_c.specs.Results.{Buffer, OnClient}
-use Rattle.tikeburo_c.specs.Streams.{AnswersAsk, AnswersIn, FeedsIn, GivesAsk, Reaches, Resets, RespondsIn, ServesIn, ShowsIn, named_ask}
+use Rattle.tikeburo_c.specs.Streams.{AnswersAsk, AnswersIn, Fails, FeedsIn, GivesAsk, Resets, RespondsIn, ServesIn, ShowsIn, named_ask}
 use Rattle.tikeburo_c.specs.Widths.{columns_by}
 use Rattle.tikeburo_c.specs.declared.clients.FaultFields.{FaultFields}
 use Rattle.tikeburo_c.specs.declared.failure.Failure.{Failure}
@@ -166,40 +166,39 @@ responded bytes None client new old_room new_room none a answers = absurd none
 
 -- ---- the client is fed
 
-reached : (result : Result (Unit {0}) ClientError) (old new : FaultFields) → Reaches result old (Ok tt) new → result ≡ Ok tt
-reached (Ok u) old new reaches = refl
-reached (Err (errors.Fault e)) old new reaches = absurd cc
-reached (Err (errors.Size at)) old new reaches = absurd cc
-reached (Err errors.Numbers) old new reaches = absurd cc
-reached (Err errors.Memory) old new reaches = absurd cc
+no_failure : (e : ClientError) (old new : FaultFields) → Fails e old (Ok tt) new → ⊥
+no_failure (errors.Fault e) old new fails = cc
+no_failure (errors.Size at) old new fails = cc
+no_failure errors.Numbers old new fails = cc
+no_failure errors.Memory old new fails = cc
 
-pub serves_fed : (piece : List ℕ) (surface client new : Option Kept) (old_fault new_fault : FaultFields) (outcome : Outcome) → ServesIn surface client → IsReadyIn client → RespondsIn surface client piece → FeedsIn piece (client, old_fault) outcome (new, new_fault) → ServesIn surface new
-serves_fed piece (Some (Surface s)) (Some (Client c)) (Some (Client d)) old_fault new_fault outcome serves ready responds (result, reaches, feeds) = feeds.serves s serves ready responds
-serves_fed piece (Some (Surface s)) (Some (Client c)) (Some (Surface t)) old_fault new_fault outcome serves ready responds none = none
-serves_fed piece (Some (Surface s)) (Some (Client c)) (Some (Viewer f)) old_fault new_fault outcome serves ready responds none = none
-serves_fed piece (Some (Surface s)) (Some (Client c)) (Some (Lines l)) old_fault new_fault outcome serves ready responds none = none
-serves_fed piece (Some (Surface s)) (Some (Client c)) None old_fault new_fault outcome serves ready responds none = none
-serves_fed piece (Some (Surface s)) (Some (Surface t)) new old_fault new_fault outcome none ready responds fed = absurd none
-serves_fed piece (Some (Surface s)) (Some (Viewer f)) new old_fault new_fault outcome none ready responds fed = absurd none
-serves_fed piece (Some (Surface s)) (Some (Lines l)) new old_fault new_fault outcome none ready responds fed = absurd none
-serves_fed piece (Some (Surface s)) None new old_fault new_fault outcome none ready responds fed = absurd none
-serves_fed piece (Some (Viewer f)) client new old_fault new_fault outcome none ready responds fed = absurd none
-serves_fed piece (Some (Lines l)) client new old_fault new_fault outcome none ready responds fed = absurd none
-serves_fed piece (Some (Client c)) client new old_fault new_fault outcome none ready responds fed = absurd none
-serves_fed piece None client new old_fault new_fault outcome none ready responds fed = absurd none
+pub serves_fed : (piece : List ℕ) (surface client new : Option Kept) (old_written new_written : ℕ × FaultFields) (outcome : Outcome) → ServesIn surface client → IsReadyIn client → RespondsIn surface client piece → FeedsIn piece (client, old_written) outcome (new, new_written) → ServesIn surface new
+serves_fed piece (Some (Surface s)) (Some (Client c)) (Some (Client d)) old_written new_written outcome serves ready responds (result, reaches, counts, feeds) = feeds.serves s serves ready responds
+serves_fed piece (Some (Surface s)) (Some (Client c)) (Some (Surface t)) old_written new_written outcome serves ready responds none = none
+serves_fed piece (Some (Surface s)) (Some (Client c)) (Some (Viewer f)) old_written new_written outcome serves ready responds none = none
+serves_fed piece (Some (Surface s)) (Some (Client c)) (Some (Lines l)) old_written new_written outcome serves ready responds none = none
+serves_fed piece (Some (Surface s)) (Some (Client c)) None old_written new_written outcome serves ready responds none = none
+serves_fed piece (Some (Surface s)) (Some (Surface t)) new old_written new_written outcome none ready responds fed = absurd none
+serves_fed piece (Some (Surface s)) (Some (Viewer f)) new old_written new_written outcome none ready responds fed = absurd none
+serves_fed piece (Some (Surface s)) (Some (Lines l)) new old_written new_written outcome none ready responds fed = absurd none
+serves_fed piece (Some (Surface s)) None new old_written new_written outcome none ready responds fed = absurd none
+serves_fed piece (Some (Viewer f)) client new old_written new_written outcome none ready responds fed = absurd none
+serves_fed piece (Some (Lines l)) client new old_written new_written outcome none ready responds fed = absurd none
+serves_fed piece (Some (Client c)) client new old_written new_written outcome none ready responds fed = absurd none
+serves_fed piece None client new old_written new_written outcome none ready responds fed = absurd none
 
-pub shows_fed : (piece : List ℕ) (surface client new : Option Kept) (old_fault new_fault : FaultFields) → ServesIn surface client → IsReadyIn client → RespondsIn surface client piece → FeedsIn piece (client, old_fault) (Ok tt) (new, new_fault) → ShowsIn surface new
-shows_fed piece (Some (Surface s)) (Some (Client c)) (Some (Client d)) old_fault new_fault serves ready responds (Ok u, reaches, feeds) = (feeds.shows s serves ready responds).0
-shows_fed piece (Some (Surface s)) (Some (Client c)) (Some (Client d)) old_fault new_fault serves ready responds (Err e, reaches, feeds) = absurd (let is = reached (Err e) old_fault new_fault reaches in cc)
-shows_fed piece (Some (Surface s)) (Some (Client c)) (Some (Surface t)) old_fault new_fault serves ready responds none = none
-shows_fed piece (Some (Surface s)) (Some (Client c)) (Some (Viewer f)) old_fault new_fault serves ready responds none = none
-shows_fed piece (Some (Surface s)) (Some (Client c)) (Some (Lines l)) old_fault new_fault serves ready responds none = none
-shows_fed piece (Some (Surface s)) (Some (Client c)) None old_fault new_fault serves ready responds none = none
-shows_fed piece (Some (Surface s)) (Some (Surface t)) new old_fault new_fault none ready responds fed = absurd none
-shows_fed piece (Some (Surface s)) (Some (Viewer f)) new old_fault new_fault none ready responds fed = absurd none
-shows_fed piece (Some (Surface s)) (Some (Lines l)) new old_fault new_fault none ready responds fed = absurd none
-shows_fed piece (Some (Surface s)) None new old_fault new_fault none ready responds fed = absurd none
-shows_fed piece (Some (Viewer f)) client new old_fault new_fault none ready responds fed = absurd none
-shows_fed piece (Some (Lines l)) client new old_fault new_fault none ready responds fed = absurd none
-shows_fed piece (Some (Client c)) client new old_fault new_fault none ready responds fed = absurd none
-shows_fed piece None client new old_fault new_fault none ready responds fed = absurd none
+pub shows_fed : (piece : List ℕ) (surface client new : Option Kept) (old_written new_written : ℕ × FaultFields) → ServesIn surface client → IsReadyIn client → RespondsIn surface client piece → FeedsIn piece (client, old_written) (Ok tt) (new, new_written) → ShowsIn surface new
+shows_fed piece (Some (Surface s)) (Some (Client c)) (Some (Client d)) old_written new_written serves ready responds (Ok n, reaches, counts, feeds) = (feeds.shows s serves ready responds).0
+shows_fed piece (Some (Surface s)) (Some (Client c)) (Some (Client d)) old_written new_written serves ready responds (Err e, reaches, counts, feeds) = absurd (no_failure e old_written.1 new_written.1 reaches)
+shows_fed piece (Some (Surface s)) (Some (Client c)) (Some (Surface t)) old_written new_written serves ready responds none = none
+shows_fed piece (Some (Surface s)) (Some (Client c)) (Some (Viewer f)) old_written new_written serves ready responds none = none
+shows_fed piece (Some (Surface s)) (Some (Client c)) (Some (Lines l)) old_written new_written serves ready responds none = none
+shows_fed piece (Some (Surface s)) (Some (Client c)) None old_written new_written serves ready responds none = none
+shows_fed piece (Some (Surface s)) (Some (Surface t)) new old_written new_written none ready responds fed = absurd none
+shows_fed piece (Some (Surface s)) (Some (Viewer f)) new old_written new_written none ready responds fed = absurd none
+shows_fed piece (Some (Surface s)) (Some (Lines l)) new old_written new_written none ready responds fed = absurd none
+shows_fed piece (Some (Surface s)) None new old_written new_written none ready responds fed = absurd none
+shows_fed piece (Some (Viewer f)) client new old_written new_written none ready responds fed = absurd none
+shows_fed piece (Some (Lines l)) client new old_written new_written none ready responds fed = absurd none
+shows_fed piece (Some (Client c)) client new old_written new_written none ready responds fed = absurd none
+shows_fed piece None client new old_written new_written none ready responds fed = absurd none

@@ -53,6 +53,20 @@ OnClient P (Some (Viewer f)) outcome new = Refused WrongKind (Some (Viewer f)) o
 OnClient P (Some (Lines l)) outcome new = Refused WrongKind (Some (Lines l)) outcome new
 OnClient P None outcome new = Refused NoHandle None outcome new
 
+-- and to what else it writes
+abbrev pub OnClientAnd :
+    {A : Type 0} → (ClientValue ChosenWidths × A → Outcome → ClientValue ChosenWidths × A → Type 0) →
+    Option Kept × A → Outcome → Option Kept × A → Type 0
+OnClientAnd P (Some (Client c), old) outcome (Some (Client d), new) = P (c, old) outcome (d, new)
+OnClientAnd P (Some (Client c), old) outcome _ = ⊥
+OnClientAnd P (Some (Surface s), old) outcome new =
+    Refused WrongKind (Some (Surface s), old) outcome new
+OnClientAnd P (Some (Viewer f), old) outcome new =
+    Refused WrongKind (Some (Viewer f), old) outcome new
+OnClientAnd P (Some (Lines l), old) outcome new =
+    Refused WrongKind (Some (Lines l), old) outcome new
+OnClientAnd P (None, old) outcome new = Refused NoHandle (None, old) outcome new
+
 -- the call did this to the lines that the handle has
 abbrev pub OnLines :
     (List LineValue → Outcome → List LineValue → Type 0) → Option Kept → Outcome → Option Kept →

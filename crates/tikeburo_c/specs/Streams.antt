@@ -3,12 +3,14 @@ use Rattle.std.specs.Prelude.{◌≡◌, ◌⊎◌, ℕ, ◌<◌, true, false, R
 use Rattle.cbor.specs.declared.error.FaultKind.{FaultKind}
 use Rattle.cbor.specs.declared.error.FaultKind.TheVariants as faults
 use Rattle.termwiz_share.specs.Client.{ClientValue, IsReady, ask_of}
-use Rattle.termwiz_share.specs.Feeding.{Feeds}
-use Rattle.termwiz_share.specs.Histories.{Follows, FollowsTo, Given}
+use Rattle.termwiz_share.specs.Feeding.{Feeds, Keeps, TakesNext}
+use Rattle.termwiz_share.specs.Histories.{Follows, FollowsNext, FollowsTo, Given}
 use Rattle.termwiz_share.specs.Serving.{KeepsSources, Serves, Shows}
-use Rattle.termwiz_share.specs.Source.{IsResponse, SourceValue, trimmed}
+use Rattle.termwiz_share.specs.Source.{IsResponse, SourceValue, response_bytes, trimmed}
 use Rattle.termwiz_share.specs.declared.error.ClientError.{ClientError}
 use Rattle.termwiz_share.specs.declared.error.ClientError.TheVariants as errors
+use Rattle.termwiz_share.specs.declared.taken.Taken.{Taken}
+use Rattle.termwiz_share.specs.declared.taken.Taken.TheVariants as shows
 use Rattle.termwiz_screen.specs.FullScreen.{FullScreen}
 use Rattle.termwiz_surface.specs.RowNumbers.{NumbersRows}
 use Rattle.termwiz_surface.specs.Surface.{full_of}
@@ -17,9 +19,10 @@ use Rattle.termwiz_wire.specs.Sent.{IsAsk, ask}
 use Rattle.termwiz_wire.specs.declared.sent.Ask.{Ask}
 use Rattle.tikeburo_c.specs.Changes.{GoesOn}
 use Rattle.tikeburo_c.specs.Outcomes.{Outcome, unread_as}
-use Rattle.tikeburo_c.specs.Results.{Buffer, Gives, OrNoMemory, Refused}
+use Rattle.tikeburo_c.specs.Results.{Buffer, Gives, OnClientAnd, OrNoMemory, Refused}
 use Rattle.tikeburo_c.specs.Widths.{columns_by}
 use Rattle.tikeburo_c.specs.declared.clients.FaultFields.{FaultFields}
+use Rattle.tikeburo_c.specs.declared.clients.TakenFields.{TakenFields}
 use Rattle.tikeburo_c.specs.declared.failure.Failure.{Failure}
 use Rattle.tikeburo_c.specs.declared.failure.Failure.TheVariants.{Memory, NoHandle, Numbers, Short, Unreadable, WrongKind}
 use Rattle.tikeburo_c.specs.declared.kept.Kept.{Kept}
@@ -44,6 +47,7 @@ pub record AnswersAsk (a : Ask) (old : Answering) (outcome : Outcome) (new : Ans
     Type 0 where
   pub bytes : List ℕ
   pub response : IsResponse columns_by new.0 a bytes
+  pub given : bytes ≡ response_bytes columns_by new.0 a
   pub gives : Gives bytes old.1 outcome new.1
   pub trims : new.0 ≡ record old.0 { surface = trimmed old.0.surface }
   pub goes_on : GoesOn old.0 new.0
@@ -94,7 +98,13 @@ fields_at kind at (Some change) =
     record { kind = kind; has_change = true; at = at; change = change }
 fields_at kind at None = record { kind = kind; has_change = false; at = at; change = 0 }
 
--- what a call came to that fed a client, and what it wrote to the struct
+-- what came of the next answer as a struct
+abbrev pub taken_fields : Option Taken → TakenFields
+taken_fields None = record { kind = 0; at = 0 }
+taken_fields (Some shows.Shown) = record { kind = 1; at = 0 }
+taken_fields (Some (shows.Stale at)) = record { kind = 2; at = at }
+
+-- what a call of a client came to, and what it wrote to the struct of a fault
 abbrev pub Fails : ClientError → FaultFields → Outcome → FaultFields → Type 0
 Fails (errors.Fault f) old outcome new =
     (outcome ≡ Err Unreadable) × (new ≡ fields_at (fault_number f.kind) f.at f.change)
@@ -102,13 +112,19 @@ Fails (errors.Size at) old outcome new = (outcome ≡ Err Unreadable) × (new �
 Fails errors.Numbers old outcome new = (outcome ≡ Err Numbers) × (new ≡ old)
 Fails errors.Memory old outcome new = (outcome ≡ Err Memory) × (new ≡ old)
 
-abbrev pub Reaches : Result (Unit {0}) ClientError → FaultFields → Outcome → FaultFields → Type 0
-Reaches (Ok u) old outcome new = (outcome ≡ Ok tt) × (new ≡ old)
+abbrev pub Reaches :
+    {A : Type 0} → Result A ClientError → FaultFields → Outcome → FaultFields → Type 0
+Reaches (Ok x) old outcome new = (outcome ≡ Ok tt) × (new ≡ old)
 Reaches (Err error) old outcome new = Fails error old outcome new
+
+-- what it wrote beside that: nothing where it failed
+abbrev pub Writes : {A B : Type 0} → (A → B) → Result A ClientError → B → B → Type 0
+Writes written (Ok x) old new = new ≡ written x
+Writes written (Err error) old new = new ≡ old
 
 -- bytes are fed to a client as the library's clients take them
 pub record FeedsAs (piece : List ℕ) (old : ClientValue ChosenWidths)
-    (result : Result (Unit {0}) ClientError) (new : ClientValue ChosenWidths) : Type 0 where
+    (result : Result ℕ ClientError) (new : ClientValue ChosenWidths) : Type 0 where
   pub feeds : Feeds columns_by old piece result new
   pub follows :
       (histories : ℕ → ℕ → FullScreen) (sent : List Given) (future : List ℕ) →
@@ -124,28 +140,66 @@ pub record FeedsAs (piece : List ℕ) (old : ClientValue ChosenWidths)
       IsResponse columns_by s (ask_of old) piece → Serves columns_by s new
   pub numbered : NumbersRows old.surface new.surface
 
--- a client, and a caller's struct for a fault
+-- a client, and a caller's number of answers and struct for a fault
 abbrev pub Feeding : Type 0
-Feeding = ClientValue ChosenWidths × FaultFields
+Feeding = ClientValue ChosenWidths × (ℕ × FaultFields)
 
 abbrev pub FeedsBytes : List ℕ → Feeding → Outcome → Feeding → Type 0
 FeedsBytes piece old outcome new =
-    (result : Result (Unit {0}) ClientError) × Reaches result old.1 outcome new.1 ×
-    FeedsAs piece old.0 result new.0
+    (result : Result ℕ ClientError) × Reaches result old.1.1 outcome new.1.1 ×
+    Writes (λ (n : ℕ). n) result old.1.0 new.1.0 × FeedsAs piece old.0 result new.0
 
 -- to the client that the handle has
 abbrev pub FeedsIn :
-    List ℕ → Option Kept × FaultFields → Outcome → Option Kept × FaultFields → Type 0
-FeedsIn piece (Some (Client c), old) outcome (Some (Client d), new) =
-    FeedsBytes piece (c, old) outcome (d, new)
-FeedsIn piece (Some (Client c), old) outcome _ = ⊥
-FeedsIn piece (Some (Surface s), old) outcome new =
-    Refused WrongKind (Some (Surface s), old) outcome new
-FeedsIn piece (Some (Viewer f), old) outcome new =
-    Refused WrongKind (Some (Viewer f), old) outcome new
-FeedsIn piece (Some (Lines l), old) outcome new =
-    Refused WrongKind (Some (Lines l), old) outcome new
-FeedsIn piece (None, old) outcome new = Refused NoHandle (None, old) outcome new
+    List ℕ → Option Kept × (ℕ × FaultFields) → Outcome → Option Kept × (ℕ × FaultFields) → Type 0
+FeedsIn piece = OnClientAnd (FeedsBytes piece)
+
+-- bytes are kept by a client as the library's clients keep them
+pub record KeepsAs (piece : List ℕ) (old : ClientValue ChosenWidths)
+    (result : Result (Unit {0}) ClientError) (new : ClientValue ChosenWidths) : Type 0 where
+  pub keeps : Keeps old piece result new
+  pub follows :
+      (histories : ℕ → ℕ → FullScreen) (sent : List Given) (future : List ℕ) →
+      Follows columns_by histories sent old (piece ++ future) →
+      OnOk result (Follows columns_by histories sent new future)
+  pub serves : KeepsSources columns_by old new
+
+-- a client, and a caller's struct for a fault
+abbrev pub Keeping : Type 0
+Keeping = ClientValue ChosenWidths × FaultFields
+
+abbrev pub KeepsBytes : List ℕ → Keeping → Outcome → Keeping → Type 0
+KeepsBytes piece old outcome new =
+    (result : Result (Unit {0}) ClientError) × Reaches result old.1 outcome new.1 ×
+    KeepsAs piece old.0 result new.0
+
+-- the next answer is taken as the library's clients take it
+pub record TakesAs (old : ClientValue ChosenWidths) (result : Result (Option Taken) ClientError)
+    (new : ClientValue ChosenWidths) : Type 0 where
+  pub takes : TakesNext columns_by old result new
+  pub follows :
+      (histories : ℕ → ℕ → FullScreen) (sent : List Given) (future : List ℕ) →
+      Follows columns_by histories sent old future →
+      FollowsNext columns_by histories sent future old result new
+  -- one that has the response to its ask shows what the source shows, and is served by it still,
+  -- also after an error
+  pub shows :
+      (s : SourceValue ChosenWidths) → Serves columns_by s old → old.stopped ≡ None →
+      IsResponse columns_by s (ask_of old) old.kept →
+      OnOk result ((result ≡ Ok (Some shows.Shown)) × Shows s new × IsReady new)
+  pub serves :
+      (s : SourceValue ChosenWidths) → Serves columns_by s old → old.stopped ≡ None →
+      IsResponse columns_by s (ask_of old) old.kept → Serves columns_by s new
+  pub numbered : NumbersRows old.surface new.surface
+
+-- a client, and a caller's structs for what came of an answer and for a fault
+abbrev pub Taking : Type 0
+Taking = ClientValue ChosenWidths × (TakenFields × FaultFields)
+
+abbrev pub TakesOne : Taking → Outcome → Taking → Type 0
+TakesOne old outcome new =
+    (result : Result (Option Taken) ClientError) × Reaches result old.1.1 outcome new.1.1 ×
+    Writes taken_fields result old.1.0 new.1.0 × TakesAs old.0 result new.0
 
 -- an ask that names no source has no number
 abbrev pub named_ask : Ask → Ask

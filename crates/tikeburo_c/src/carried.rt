@@ -45,5 +45,6 @@ pub(crate) fn carry(
     if answered != 0 {
         return answered;
     }
-    tk_client_feed(alloc, client, &room[..len], fault)
+    let mut taken = 0;
+    tk_client_feed(alloc, client, &room[..len], &mut taken, fault)
 }

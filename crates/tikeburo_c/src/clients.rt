@@ -1,13 +1,13 @@
 //! Clients: how they are made, ask, and are fed.
-ghost use Rattle.std.specs.Prelude.{◌≡◌, ◌<◌, IfErr, IfOk};
+ghost use Rattle.std.specs.Prelude.{◌≡◌, ◌<◌, Err, IfErr, IfOk};
 ghost use Rattle.tikeburo_c.specs.Handles.{kept_of};
 ghost use Rattle.tikeburo_c.specs.Making.{MakesClient, MakesClientBy, blank_client, limited};
 ghost use Rattle.tikeburo_c.specs.Making.{widths_within};
 ghost use Rattle.tikeburo_c.specs.Outcomes.{Reports};
-ghost use Rattle.tikeburo_c.specs.Results.{OnClient, OrNoMemory};
-ghost use Rattle.tikeburo_c.specs.Streams.{FeedsBytes, FeedsIn, GivesAsk, GivesOne, Reaches};
-ghost use Rattle.tikeburo_c.specs.Streams.{Resets};
-ghost use Rattle.tikeburo_c.specs.Streams.{fault_number, fields_at, named_ask};
+ghost use Rattle.tikeburo_c.specs.Results.{OnClient, OnClientAnd, OrNoMemory};
+ghost use Rattle.tikeburo_c.specs.Streams.{Fails, FeedsBytes, FeedsIn, GivesAsk, GivesOne};
+ghost use Rattle.tikeburo_c.specs.Streams.{KeepsBytes, Resets, TakesOne};
+ghost use Rattle.tikeburo_c.specs.Streams.{fault_number, fields_at, named_ask, taken_fields};
 ghost use Rattle.tikeburo_c.specs.declared.failure.Failure.TheVariants.{Memory};
 ghost use Rattle.tikeburo_c.specs.declared.kept.Kept.TheVariants as kinds;
 ghost use Rattle.termwiz_share.specs.Client.{ask_of};
@@ -20,7 +20,7 @@ use crate::tables::WidthRange;
 use crate::widths::ChosenWidths;
 use cbor::FaultKind;
 use std::alloc::Global;
-use termwiz_share::{Client, ClientError};
+use termwiz_share::{Client, ClientError, Taken};
 use termwiz_wire::{Ask, Limits, encode_ask};
 
 /// What is wrong with the bytes of an answer. Where it is in no change, that is 0.
@@ -31,6 +31,14 @@ pub struct FaultFields {
     pub has_change: bool,
     pub at: usize,
     pub change: usize,
+}
+
+/// What came of the next answer: there was none, it is shown, or it is stale from this byte on.
+#[repr(C)]
+#[derive(Clone, Copy)]
+pub struct TakenFields {
+    pub kind: u8,
+    pub at: usize,
 }
 
 fn blank_client(
@@ -134,51 +142,150 @@ fn fields_at(kind: u8, at: usize, change: Option<usize>) -> FaultFields
     }
 }
 
-// What a call comes to that fed a client, with the fault in the struct where there is one.
-fn reached(fed: Result<(), ClientError>, fault: &mut FaultFields) -> Result<(), Failure>
-    ensures { Reaches fed fault.old result fault.new }
+// What a call of a client comes to that failed, with the fault in the struct where there is one.
+fn failed(error: ClientError, fault: &mut FaultFields) -> Failure
+    ensures { Fails error fault.old (Err result) fault.new }
 {
-    match fed {
-        Ok(()) => Ok(()),
-        Err(ClientError::Fault(found)) => {
+    match error {
+        ClientError::Fault(found) => {
             *fault = fields_at(fault_number(found.kind), found.at, found.change);
-            Err(Failure::Unreadable)
+            Failure::Unreadable
         }
-        Err(ClientError::Size { at }) => {
+        ClientError::Size { at } => {
             *fault = fields_at(5, at, None);
-            Err(Failure::Unreadable)
+            Failure::Unreadable
         }
-        Err(ClientError::Numbers) => Err(Failure::Numbers),
-        Err(ClientError::Memory) => Err(Failure::Memory),
+        ClientError::Numbers => Failure::Numbers,
+        ClientError::Memory => Failure::Memory,
     }
 }
 
 fn feed(
     client: &mut Client<ChosenWidths>,
     bytes: &[u8],
+    taken: &mut usize,
     fault: &mut FaultFields,
 ) -> Result<(), Failure>
-    ensures { FeedsBytes bytes.now (client.old, fault.old) result (client.new, fault.new) }
+    ensures { FeedsBytes bytes.now (client.old, (taken.old, fault.old)) result
+        (client.new, (taken.new, fault.new)) }
 {
-    let fed = client.feed(bytes);
-    reached(fed, fault)
+    match client.feed(bytes) {
+        Ok(count) => {
+            *taken = count;
+            Ok(())
+        }
+        Err(error) => Err(failed(error, fault)),
+    }
 }
 
-/// Takes the next bytes of a stream of answers.
+/// Takes the next bytes of a stream of answers, and the answers that are whole then.
 #[unsafe(no_mangle)]
 pub extern "C" fn tk_client_feed(
     alloc: Global,
     handle: &mut Handle,
     bytes: &[u8],
+    taken: &mut usize,
     fault: &mut FaultFields,
 ) -> i32
     ensures { Reports result (λ outcome. FeedsIn bytes.now
+        (kept_of handle.old, (taken.old, fault.old)) outcome
+        (kept_of handle.new, (taken.new, fault.new))) }
+{
+    let outcome = match handle.take(alloc) {
+        Some(mut kept) => {
+            let outcome = match &mut *kept {
+                Kept::Client(client) => feed(client, bytes, taken, fault),
+                Kept::Surface(_) | Kept::Viewer(_) | Kept::Lines(_) => Err(Failure::WrongKind),
+            };
+            handle.put(alloc, kept);
+            outcome
+        }
+        None => Err(Failure::NoHandle),
+    };
+    status(outcome)
+}
+
+fn keep(
+    client: &mut Client<ChosenWidths>,
+    bytes: &[u8],
+    fault: &mut FaultFields,
+) -> Result<(), Failure>
+    ensures { KeepsBytes bytes.now (client.old, fault.old) result (client.new, fault.new) }
+{
+    match client.keep(bytes) {
+        Ok(()) => Ok(()),
+        Err(error) => Err(failed(error, fault)),
+    }
+}
+
+/// Keeps the next bytes of a stream of answers, and takes none.
+#[unsafe(no_mangle)]
+pub extern "C" fn tk_client_keep(
+    alloc: Global,
+    handle: &mut Handle,
+    bytes: &[u8],
+    fault: &mut FaultFields,
+) -> i32
+    ensures { Reports result (λ outcome. OnClientAnd (KeepsBytes bytes.now)
         (kept_of handle.old, fault.old) outcome (kept_of handle.new, fault.new)) }
 {
     let outcome = match handle.take(alloc) {
         Some(mut kept) => {
             let outcome = match &mut *kept {
-                Kept::Client(client) => feed(client, bytes, fault),
+                Kept::Client(client) => keep(client, bytes, fault),
+                Kept::Surface(_) | Kept::Viewer(_) | Kept::Lines(_) => Err(Failure::WrongKind),
+            };
+            handle.put(alloc, kept);
+            outcome
+        }
+        None => Err(Failure::NoHandle),
+    };
+    status(outcome)
+}
+
+fn taken_fields(taken: Option<Taken>) -> TakenFields
+    ensures { result ≡ taken_fields taken }
+{
+    match taken {
+        None => TakenFields { kind: 0, at: 0 },
+        Some(Taken::Shown) => TakenFields { kind: 1, at: 0 },
+        Some(Taken::Stale { at }) => TakenFields { kind: 2, at },
+    }
+}
+
+fn take_answer(
+    client: &mut Client<ChosenWidths>,
+    taken: &mut TakenFields,
+    fault: &mut FaultFields,
+) -> Result<(), Failure>
+    ensures { TakesOne (client.old, (taken.old, fault.old)) result
+        (client.new, (taken.new, fault.new)) }
+{
+    match client.take_answer() {
+        Ok(answer) => {
+            *taken = taken_fields(answer);
+            Ok(())
+        }
+        Err(error) => Err(failed(error, fault)),
+    }
+}
+
+/// Takes the next answer of the bytes that a client keeps, if they have a whole one.
+#[unsafe(no_mangle)]
+pub extern "C" fn tk_client_take_answer(
+    alloc: Global,
+    handle: &mut Handle,
+    taken: &mut TakenFields,
+    fault: &mut FaultFields,
+) -> i32
+    ensures { Reports result (λ outcome. OnClientAnd TakesOne
+        (kept_of handle.old, (taken.old, fault.old)) outcome
+        (kept_of handle.new, (taken.new, fault.new))) }
+{
+    let outcome = match handle.take(alloc) {
+        Some(mut kept) => {
+            let outcome = match &mut *kept {
+                Kept::Client(client) => take_answer(client, taken, fault),
                 Kept::Surface(_) | Kept::Viewer(_) | Kept::Lines(_) => Err(Failure::WrongKind),
             };
             handle.put(alloc, kept);

@@ -9,3 +9,4 @@ mod RowsOfForm
 mod SameLists
 mod Served
 mod Unlogged
+mod Taken

@@ -20,4 +20,5 @@ pub mod scrollback;
 pub mod serving;
 pub mod shaper;
 pub mod sharing;
+pub mod watching;
 pub mod window;

@@ -3,9 +3,10 @@ ghost use Rattle.std.specs.Prelude.{◌≡◌, ◌<◌, [], IfOk, false};
 ghost use Rattle.termwiz_share.specs.{DisplayValue, IsSurfaceSize, NumbersRows, Takes};
 ghost use Rattle.termwiz_share.specs.{blank_surface};
 ghost use Rattle.termwiz_share.specs.{fits, is_repaint, lent_answer, measure, nameless, shown_on};
-ghost use Rattle.termwiz_share.specs.{size_place, suits, true};
+ghost use Rattle.termwiz_share.specs.{size_place, stale_place, suits, true};
 
 use crate::error::ClientError;
+use crate::taken::Taken;
 use cbor::unsigned_len;
 use std::alloc::{AllocError, Global};
 use std::marker::Model;
@@ -80,7 +81,7 @@ impl<W: Widths> Display<W> {
     }
 
     /// Takes an answer, if it fits.
-    pub(super) fn take(&mut self, answer: LentAnswer<'_>) -> Result<(), ClientError>
+    pub(super) fn take(&mut self, answer: LentAnswer<'_>) -> Result<Taken, ClientError>
         requires named { 0 < answer.source }
         requires sized { IsSurfaceSize answer.width answer.height }
         ensures takes { Takes (measure W.width_of)
@@ -91,7 +92,8 @@ impl<W: Widths> Display<W> {
             return self.take_repaint(answer);
         }
         if answer.source != self.source || answer.base != self.number {
-            return Ok(());
+            let at = self.stale_place(&answer);
+            return Ok(Taken::Stale { at });
         }
         if (answer.width, answer.height) != self.surface.dimensions() {
             let at = self.size_place(&answer);
@@ -102,7 +104,7 @@ impl<W: Widths> Display<W> {
 
     // A repaint begins with a blank surface of its size, with a number above that of the surface
     // that it takes the place of.
-    fn take_repaint(&mut self, answer: LentAnswer<'_>) -> Result<(), ClientError>
+    fn take_repaint(&mut self, answer: LentAnswer<'_>) -> Result<Taken, ClientError>
         requires some { 0 < answer.source }
         requires sized { IsSurfaceSize answer.width answer.height }
         requires repaint { is_repaint (lent_answer answer).answer ≡ true }
@@ -123,11 +125,11 @@ impl<W: Widths> Display<W> {
         self.surface = surface;
         self.source = answer.source;
         self.number = answer.number;
-        Ok(())
+        Ok(Taken::Shown)
     }
 
     // A delta begins with what is shown.
-    fn take_delta(&mut self, answer: LentAnswer<'_>) -> Result<(), ClientError>
+    fn take_delta(&mut self, answer: LentAnswer<'_>) -> Result<Taken, ClientError>
         requires some { 0 < answer.source }
         requires delta { is_repaint (lent_answer answer).answer ≡ false }
         requires fits { fits (shown_on self.old) (lent_answer answer) ≡ true }
@@ -147,7 +149,7 @@ impl<W: Widths> Display<W> {
         }
         self.source = answer.source;
         self.number = answer.number;
-        Ok(())
+        Ok(Taken::Shown)
     }
 
     // What is shown has no source and no number.
@@ -156,6 +158,17 @@ impl<W: Widths> Display<W> {
     {
         self.source = 0;
         self.number = 0;
+    }
+
+    // Where in an answer's bytes begins what it leads on from, that differs from what is shown.
+    fn stale_place(&self, answer: &LentAnswer<'_>) -> usize
+        ensures { result ≡ stale_place (shown_on self.now) (lent_answer answer.now) }
+    {
+        if answer.source != self.source {
+            return 2;
+        }
+        let size = unsigned_len(answer.width) + unsigned_len(answer.height);
+        2 + unsigned_len(answer.source) + size
     }
 
     // Where in an answer's bytes its size differs from the one that is shown.

@@ -35,7 +35,7 @@ returns-clause-serves c serves =
     let asks = asked (kept_of reset.new.handle) _ (ask.new.room, ask.new.len) (done_by ask.result _ ask.ensures.read given) in
     let asks_still = subst (λ (k : Option Kept). Asked (asks_by k) (take ask.new.len ask.new.room)) (sym ask.ensures.same) asks in
     let responds = responded _ surface (kept_of ask.new.handle) (kept_of answer.new.handle) (c.args.room.now, 0) (answer.new.room, answer.new.len) still asks_still (done_by answer.result _ answer.ensures answered) in
-    serves_fed _ (kept_of answer.new.handle) (kept_of ask.new.handle) (kept_of fed.new.handle) c.args.fault.now fed.new.fault fed.ensures.0 after ready responds fed.ensures.2
+    serves_fed _ (kept_of answer.new.handle) (kept_of ask.new.handle) (kept_of fed.new.handle) (0, c.args.fault.now) (fed.new.taken, fed.new.fault) fed.ensures.0 after ready responds fed.ensures.2
 
 pub returns-clause-shows : goal.returns-clause-shows
 returns-clause-shows c serves done =
@@ -54,7 +54,7 @@ returns-clause-shows c serves done =
     let asks = asked (kept_of reset.new.handle) _ (ask.new.room, ask.new.len) (done_by ask.result _ ask.ensures.read given) in
     let asks_still = subst (λ (k : Option Kept). Asked (asks_by k) (take ask.new.len ask.new.room)) (sym ask.ensures.same) asks in
     let responds = responded _ surface (kept_of ask.new.handle) (kept_of answer.new.handle) (c.args.room.now, 0) (answer.new.room, answer.new.len) still asks_still (done_by answer.result _ answer.ensures answered) in
-    shows_fed _ (kept_of answer.new.handle) (kept_of ask.new.handle) (kept_of fed.new.handle) c.args.fault.now fed.new.fault after ready responds (done_by fed.result _ fed.ensures taken)
+    shows_fed _ (kept_of answer.new.handle) (kept_of ask.new.handle) (kept_of fed.new.handle) (0, c.args.fault.now) (fed.new.taken, fed.new.fault) after ready responds (done_by fed.result _ fed.ensures taken)
 
 -- ---- why it fails
 
@@ -99,7 +99,7 @@ returns-clause-fails c serves =
     let ready = subst IsReadyIn (sym ask.ensures.same) (ready_reset (kept_of c.args.surface.now) (kept_of c.args.client.now) (kept_of reset.new.handle) reset.ensures.0 serves reset.ensures.2) in (
       fed.ensures.0,
       omega (arith, ints, fed.ensures.1),
-      feed_ends _ (kept_of c.tk_respond-answered.new.handle) (kept_of ask.new.handle) (kept_of fed.new.handle) (length c.args.room.now) c.args.fault.now fed.new.fault fed.ensures.0 ready fed.ensures.2,
+      feed_ends _ (kept_of c.tk_respond-answered.new.handle) (kept_of ask.new.handle) (kept_of fed.new.handle) (length c.args.room.now) (0, c.args.fault.now) (fed.new.taken, fed.new.fault) fed.ensures.0 ready fed.ensures.2,
     )
 
 -- ---- what the surface shows

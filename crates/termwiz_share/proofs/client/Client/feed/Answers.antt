@@ -1,4 +1,4 @@
-use Rattle.std.proofs.Common.{◌<◌, inr, subst}
+use Rattle.std.proofs.Common.{◌≡◌, inr, subst}
 use Rattle.termwiz_cell.specs.Measure.{measure}
 use Rattle.termwiz_share.specs.Client.{ClientValue}
 use Rattle.termwiz_share.specs.Feeding.{Reads}
@@ -9,23 +9,23 @@ use Rattle.termwiz_share.proofs.client.Client.feed.Goals as goal
 pub returns-clause-follows : goal.returns-clause-follows
 returns-clause-follows g c = λ histories sent future follows.
     let f = measure g.W.Widths.width_of in
-    let some : 0 < c.args.self.now.limits.bytes = rw (← c.self.view_is) c.self.invariant.1 in
-    let laws = c.answers.ensures.laws (f c.args.self.now.surface.widths) c.args.self.now.limits some in
+    let laws = c.answers.ensures.laws (f c.args.self.now.surface.widths) c.args.self.now.limits c.keep.ensures.some in
+    let kept = c.in_ok-keep.ensures.keeps in
     follows_to f histories sent future c.args.self.now c.args.piece.now laws c.take_all.result c.take_all.new.self
-    (inr (inr (follows.reading, subst (λ (s : ClientValue _). Reads f s c.take_all.result c.take_all.new.self) c.in_ok-keep.ensures.ok c.take_all.ensures.reads))) follows
+    (inr (inr (kept.0, subst (λ (s : ClientValue _). Reads f s c.take_all.result c.take_all.new.self) kept.1 c.take_all.ensures.reads))) follows
 
 pub returns-clause-shows : goal.returns-clause-shows
 returns-clause-shows g c = λ source serves ready response.
     let f = measure g.W.Widths.width_of in
-    let some : 0 < c.args.self.now.limits.bytes = rw (← c.self.view_is) c.self.invariant.1 in
-    let laws = c.answers.ensures.laws (f c.args.self.now.surface.widths) c.args.self.now.limits some in
+    let laws = c.answers.ensures.laws (f c.args.self.now.surface.widths) c.args.self.now.limits c.keep.ensures.some in
+    let kept = c.in_ok-keep.ensures.keeps in
     (responded f source c.args.self.now serves c.args.piece.now response laws ready c.take_all.result c.take_all.new.self
-    (inr (inr (ready.reading, subst (λ (s : ClientValue _). Reads f s c.take_all.result c.take_all.new.self) c.in_ok-keep.ensures.ok c.take_all.ensures.reads)))).0
+    (inr (inr (kept.0, subst (λ (s : ClientValue _). Reads f s c.take_all.result c.take_all.new.self) kept.1 c.take_all.ensures.reads)))).0
 
 pub returns-clause-serves : goal.returns-clause-serves
 returns-clause-serves g c = λ source serves ready response.
     let f = measure g.W.Widths.width_of in
-    let some : 0 < c.args.self.now.limits.bytes = rw (← c.self.view_is) c.self.invariant.1 in
-    let laws = c.answers.ensures.laws (f c.args.self.now.surface.widths) c.args.self.now.limits some in
+    let laws = c.answers.ensures.laws (f c.args.self.now.surface.widths) c.args.self.now.limits c.keep.ensures.some in
+    let kept = c.in_ok-keep.ensures.keeps in
     (responded f source c.args.self.now serves c.args.piece.now response laws ready c.take_all.result c.take_all.new.self
-    (inr (inr (ready.reading, subst (λ (s : ClientValue _). Reads f s c.take_all.result c.take_all.new.self) c.in_ok-keep.ensures.ok c.take_all.ensures.reads)))).1
+    (inr (inr (kept.0, subst (λ (s : ClientValue _). Reads f s c.take_all.result c.take_all.new.self) kept.1 c.take_all.ensures.reads)))).1

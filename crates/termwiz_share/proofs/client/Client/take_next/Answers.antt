@@ -24,16 +24,21 @@ returns-in-Err-clause-steps g c =
     let kept : drop c.self.inside.start c.self.inside.bytes.items ≡ old.kept = ap (λ (v : ClientValue _). v.kept) c.self.view_is in
     let limits : c.self.inside.limits ≡ old.limits = ap (λ (v : ClientValue _). v.limits) c.self.view_is in
     let stopped : c.self.inside.stopped ≡ old.stopped = ap (λ (v : ClientValue _). v.stopped) c.self.view_is in
-    takes_stop (measure g.W.Widths.width_of) old (lent_answer c.in-Ok.answer) (drop c.in-Ok.taken (drop c.self.inside.start c.self.inside.bytes.items)) e _ (rw (← c.self.view_is) exact) takes kept limits (c.refusal-self-inside.ensures ∙ ap (λ (s : Option ClientError). refusal s e) stopped)
+    takes_stop (measure g.W.Widths.width_of) old (lent_answer c.in-Ok.answer) (drop c.in-Ok.count (drop c.self.inside.start c.self.inside.bytes.items)) e _ (rw (← c.self.view_is) exact) takes kept limits (c.refusal-self-inside.ensures ∙ ap (λ (s : Option ClientError). refusal s e) stopped)
 
-pub returns-in_default-clause-steps : goal.returns-in_default-clause-steps
-returns-in_default-clause-steps g c =
+pub returns-in-Ok-take-clause-steps : goal.returns-in-Ok-take-clause-steps
+returns-in-Ok-take-clause-steps g c =
     let exact = rw (slice_is c.deref.result.now c.self.inside.start, c.deref.ensures.value, c.widths-widths.ensures, c.surface.ensures.value) at c.in-Ok.ensures.exact in
-    let left = drop-drop c.in-Ok.taken c.self.inside.start c.self.inside.bytes.items in
-    rw (← c.self.view_is) (takes_step (measure g.W.Widths.width_of) _ _ (lent_answer c.in-Ok.answer) (exact ∙ ap (λ (rest : List ℕ). Ok (lent_answer c.in-Ok.answer, rest)) left) c.in_default.ensures.takes refl refl)
+    let left = drop-drop c.in-Ok.count c.self.inside.start c.self.inside.bytes.items in
+    let old : ClientValue _ = c.args.self.now in
+    let t = c.in-Ok-take.taken in
+    let takes = subst (λ (v : ClientValue _). Takes (measure g.W.Widths.width_of) (display_of v) (lent_answer c.in-Ok.answer) (Ok t) c.take.new.self) c.self.view_is c.in-Ok-take.ensures.takes in
+    let limits : c.self.inside.limits ≡ old.limits = ap (λ (v : ClientValue _). v.limits) c.self.view_is in
+    let stopped : c.self.inside.stopped ≡ old.stopped = ap (λ (v : ClientValue _). v.stopped) c.self.view_is in
+    takes_step (measure g.W.Widths.width_of) old _ (lent_answer c.in-Ok.answer) t (rw (← c.self.view_is) (exact ∙ ap (λ (rest : List ℕ). Ok (lent_answer c.in-Ok.answer, rest)) left)) takes limits stopped
 
-pub returns-in_default-clause-shorter : goal.returns-in_default-clause-shorter
-returns-in_default-clause-shorter g c =
+pub returns-in-Ok-take-clause-shorter : goal.returns-in-Ok-take-clause-shorter
+returns-in-Ok-take-clause-shorter g c =
     let found = rw (slice_is c.deref.result.now c.self.inside.start, c.deref.ensures.value) at c.in-Ok.ensures.found.0 in
     let own : drop c.self.inside.start c.self.inside.bytes.items ≡ c.args.self.now.kept = ap (λ (v : ClientValue _). v.kept) c.self.view_is in
-    λ t. rw (← drop-drop c.in-Ok.taken c.self.inside.start c.self.inside.bytes.items, ← own) (left_shorter _ (lent_answer c.in-Ok.answer) (drop c.self.inside.start c.self.inside.bytes.items) c.in-Ok.taken found)
+    λ t. rw (← drop-drop c.in-Ok.count c.self.inside.start c.self.inside.bytes.items, ← own) (left_shorter _ (lent_answer c.in-Ok.answer) (drop c.self.inside.start c.self.inside.bytes.items) c.in-Ok.count found)

@@ -13,4 +13,4 @@ returns-clause-takes g c =
     let fit = rw (← c.self.view_is) at c.requires.fits in
     let size = rw (← c.self.view_is) at c.requires.size in
     let both = delta_taken m _ c.args.answer.source (lent_answer c.args.answer).answer (full_of c.add_unlogged.new.self) c.requires.delta fit size made.0 in
-    rw (← c.self.view_is) (both.0, both.1, made.1)
+    rw (← c.self.view_is) (both.0, both.1, both.2, made.1)

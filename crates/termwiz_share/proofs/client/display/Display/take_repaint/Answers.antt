@@ -22,7 +22,7 @@ returns-clause-takes g c =
     let is : full_of c.add_unlogged.new.self ≡ played full_screens m (blank_screen c.args.answer.width c.args.answer.height) a.changes =
     made.0 ∙ ap (λ w. played full_screens (measure width_of w) (full_of c.in_ok-surface.surface) a.changes) same ∙ ap (λ (p : FullScreen). played full_screens m p a.changes) blank in
     let both = repaint_taken m _ c.args.answer.source a (full_of c.add_unlogged.new.self) c.requires.repaint is in
-    rw (← c.self.view_is) (both.0, both.1, made.1 ∙ same)
+    rw (← c.self.view_is) (both.0, both.1, both.2, made.1 ∙ same)
 
 pub returns-clause-numbered : goal.returns-clause-numbered
 returns-clause-numbered g c =

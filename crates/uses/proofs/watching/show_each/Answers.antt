@@ -1,0 +1,54 @@
+use Rattle.std.proofs.Common.{◌<◌, ℕ, Option, Ok, ap, arith, length, map, subst}
+use Rattle.std.specs.Option.{is_some}
+use Rattle.termwiz_cell.specs.Measure.{measure}
+use Rattle.termwiz_share.specs.Client.{shown_by}
+use Rattle.termwiz_share.specs.Histories.{FollowsNext}
+use Rattle.termwiz_share.specs.declared.taken.Taken.{Taken}
+use Rattle.termwiz_surface.specs.{full_value}
+use Rattle.uses.proofs.Taken.{as_kept, shown_last, shown_more, shown_none, stale_one}
+use Rattle.uses.proofs.watching.show_each.Goals as goal
+
+pub overflow_add-stale : goal.overflow_add-stale
+overflow_add-stale g c = omega (arith, c.loop-taken.invariant.few, c.in_ok-keep.ensures.few, c.in_ok-taken.ensures.shorter (ap (λ (o : Option Taken). is_some o) c.in-Some.is))
+
+pub loop-taken-init : goal.loop-taken-init
+loop-taken-init g c = record {
+  few = omega arith;
+  shown = λ histories sent future follows. shown_none (measure g.W.Widths.width_of) histories sent future c.keep.new.self (map full_value c.args.screens.now.items) follows;
+}
+
+pub loop-taken-preserved : goal.loop-taken-preserved
+loop-taken-preserved g c =
+    let at = c.loop-taken in
+    let shorter = c.in_ok-taken.ensures.shorter (ap (λ (o : Option Taken). is_some o) c.in-Some.is) in
+    record {
+      few = omega (arith, at.invariant.few, shorter);
+      shown = λ histories sent future follows.
+          let f = measure g.W.Widths.width_of in
+          let so_far = at.invariant.shown histories sent future follows in
+          let next = rw (c.in-Some.is, c.in-Stale.is) at c.in_ok-taken.ensures.follows histories so_far.has.others future so_far.has.follows in
+          stale_one f histories sent future c.keep.new.self (map full_value c.args.screens.now.items) at.stale at.client c.take_answer.new.self (map full_value at.screens.items) so_far c.in-Stale.at next;
+    }
+
+pub loop-taken-preserved-in-Continue-branch-4 : goal.loop-taken-preserved-in-Continue-branch-4
+loop-taken-preserved-in-Continue-branch-4 g c =
+    let at = c.loop-taken in
+    let shorter = c.in_ok-taken.ensures.shorter (ap (λ (o : Option Taken). is_some o) c.in-Some.is) in
+    record {
+      few = omega (arith, at.invariant.few, shorter);
+      shown = λ histories sent future follows.
+          let f = measure g.W.Widths.width_of in
+          let so_far = at.invariant.shown histories sent future follows in
+          let next = rw (c.in-Some.is, c.in-Shown.is) at c.in_ok-taken.ensures.follows histories so_far.has.others future so_far.has.follows in
+          shown_more f histories sent future c.keep.new.self (map full_value c.args.screens.now.items) at.stale at.client c.take_answer.new.self (map full_value at.screens.items) so_far (map full_value c.add_screen.new.screens.items) next c.in_ok-add_screen-in-Shown.ensures;
+    }
+
+pub returns : goal.returns
+returns g c = λ histories sent future follows.
+    let f = measure g.W.Widths.width_of in
+    let at = c.loop-taken in
+    let kept = c.in_ok-keep.ensures in
+    let so_far = at.invariant.shown histories sent future (kept.follows histories sent future follows) in
+    let next = rw c.in_default.is at c.in_ok-taken.ensures.follows histories so_far.has.others future so_far.has.follows in
+    as_kept f histories sent future c.args.client.now c.keep.new.self c.take_answer.new.self (map full_value c.args.screens.now.items) (map full_value at.screens.items) at.stale (ap shown_by kept.keeps.1)
+    (shown_last f histories sent future c.keep.new.self (map full_value c.args.screens.now.items) at.stale at.client c.take_answer.new.self (map full_value at.screens.items) so_far next)

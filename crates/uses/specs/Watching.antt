@@ -1,0 +1,39 @@
+-- A viewer of a stream that takes an answer at a time.
+use Rattle.std.specs.Prelude.{◌≡◌, ℕ, ◌+◌, ◌<◌, List, [], ◌∷◌, ◌++◌, length, if◌then◌else◌}
+use Rattle.termwiz_surface.specs.{FullScreen}
+use Rattle.termwiz_share.specs.Client.{ClientValue, Shown, fits, shown_by}
+use Rattle.termwiz_share.specs.Histories.{Follows, Given, HasMore, after, after_all}
+
+-- what the answers that fit were given for
+abbrev pub pictures : Shown → List Given → List FullScreen
+pictures s [] = []
+pictures s (g ∷ gs) = (if fits s g.sent then g.shown ∷ [] else []) ++ pictures (after s g) gs
+
+-- how many of them don't
+abbrev pub stale_in : Shown → List Given → ℕ
+stale_in s [] = 0
+stale_in s (g ∷ gs) = (if fits s g.sent then 0 else 1) + stale_in (after s g) gs
+
+module _ {W : Type 0} (measure_of : W → List ℕ → ℕ) (histories : ℕ → ℕ → FullScreen)
+    (sent : List Given) (future : List ℕ) where
+  -- so many of the answers are taken: at most most of them, and fewer where no other one is whole
+  pub record TakesSome (most : ℕ) (old : ClientValue W) (count : ℕ) (new : ClientValue W) :
+      Type 0 where
+    pub given : List Given
+    pub others : List Given
+    pub all : sent ≡ given ++ others
+    pub counted : count ≡ length given
+    pub shows : shown_by new ≡ after_all (shown_by old) given
+    pub follows : Follows measure_of histories others new future
+    pub no_whole : count < most → HasMore (measure_of new.surface.widths) others new.kept
+
+  -- what those that are whole were given for is shown in turn, and so many of them are stale
+  pub record ShowsEach (old : ClientValue W) (before : List FullScreen) (stale : ℕ)
+      (new : ClientValue W) (screens : List FullScreen) : Type 0 where
+    pub given : List Given
+    pub others : List Given
+    pub all : sent ≡ given ++ others
+    pub shown : screens ≡ before ++ pictures (shown_by old) given
+    pub counted : stale ≡ stale_in (shown_by old) given
+    pub follows : Follows measure_of histories others new future
+    pub no_whole : HasMore (measure_of new.surface.widths) others new.kept

@@ -1,0 +1,65 @@
+//! A viewer of a stream that takes an answer at a time: it shows each screen, or stops after some
+//! answers.
+ghost use Rattle.std.specs.Prelude.{◌≡◌, ◌∷◌, ◌++◌, ◌≤◌, [], IfOk, List, OnOk, map, ℕ};
+ghost use Rattle.termwiz_share.specs.{Follows, Given};
+ghost use Rattle.uses.specs.{FullScreen as Picture, ShowsEach, TakesSome, full_of, full_value, measure};
+
+use std::alloc::AllocError;
+use termwiz_share::{Client, ClientError, Taken};
+use termwiz_surface::{FullScreen, Widths};
+
+/// Feeds a client the next bytes of a stream, and adds each screen that it shows then to a list. It
+/// returns how many answers were stale.
+pub fn show_each<W: Widths>(
+    client: &mut Client<W>,
+    piece: &[u8],
+    screens: &mut Vec<FullScreen>,
+) -> Result<usize, ClientError>
+    // Of a stream that the client follows: what each answer that fits was given for.
+    ensures { (histories : ℕ → ℕ → Picture) (sent : List Given) (future : List ℕ) →
+        Follows (measure W.width_of) histories sent client.old (piece.now ++ future) →
+        IfOk result (λ stale. ShowsEach (measure W.width_of) histories sent future
+        client.old (map full_value screens.old.items)
+        stale client.new (map full_value screens.new.items)) }
+{
+    client.keep(piece)?;
+    let mut stale = 0;
+    while let Some(taken) = client.take_answer()? {
+        match taken {
+            Taken::Shown => add_screen(client, screens)?,
+            Taken::Stale { at: _ } => stale += 1,
+        }
+    }
+    Ok(stale)
+}
+
+// Adds what a client shows to a list of screens.
+fn add_screen<W: Widths>(
+    client: &Client<W>,
+    screens: &mut Vec<FullScreen>,
+) -> Result<(), AllocError>
+    ensures { OnOk result (map full_value screens.new.items
+        ≡ map full_value screens.old.items ++ full_of client.now.surface ∷ []) }
+{
+    let screen = client.surface().full_screen()?;
+    screens.push(screen)?;
+    Ok(())
+}
+
+/// Takes at most this many answers of the bytes that a client keeps, and returns how many it took.
+/// They are fewer only where no other one is whole.
+pub fn take_some<W: Widths>(client: &mut Client<W>, most: usize) -> Result<usize, ClientError>
+    ensures most { IfOk result (λ count. count ≤ most) }
+    // Of a stream that the client follows it shows what the last of them that fits was given for,
+    // and follows the others.
+    ensures follows { (histories : ℕ → ℕ → Picture) (sent : List Given) (future : List ℕ) →
+        Follows (measure W.width_of) histories sent client.old future → IfOk result (λ count.
+        TakesSome (measure W.width_of) histories sent future most client.old count client.new) }
+{
+    for count in 0..most {
+        if client.take_answer()?.is_none() {
+            return Ok(count);
+        }
+    }
+    Ok(most)
+}

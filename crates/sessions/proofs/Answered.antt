@@ -1,6 +1,6 @@
 -- What is answered of the lines of an input, so far and to its end.
 use Rattle.std.proofs.Common.{◌≡◌, ℕ, ◌<◌, ◌∙◌, true, false, List, [], ◌∷◌, ◌++◌, length, inl, inr, refl, sym, ap, subst, append_assoc, append-nil}
-use Rattle.std.specs.Prelude.{Option, None, Some, Result, Ok, Err, IfOk, IfSome, MatchOption, is_ok, MatchResult, Vec}
+use Rattle.std.specs.Prelude.{Option, None, Some, Result, Ok, Err, IfOk, IfSome, is_ok, MatchResult, Vec}
 use Rattle.std.specs.declared.alloc.Global.{Global}
 use Rattle.std.specs.Io.KnownBytes.{Appends, IsAtEnd}
 use Rattle.std.specs.Io.BufRead.{drop_through, first_piece, DropsThrough}
@@ -8,16 +8,9 @@ use Rattle.std.proofs.KnownBytes.{Appends-nil, Appends-trans}
 use Rattle.std.proofs.lemmas.Bool.{true≢false}
 use Rattle.std.proofs.lemmas.List.Concat.{flat_map-append}
 use Rattle.sessions.specs.Lines.{LineSays, Say, LastLine, SayFirst, NoMore}
-use Rattle.termwiz_cell.specs.Width.{unicode_columns}
-use Rattle.termwiz_cell.specs.declared.emoji.UnicodeWidths.{UnicodeWidths}
-use Rattle.termwiz_screen.specs.Picture.{screens}
-use Rattle.termwiz_surface.specs.Answer.{AnswerValue}
-use Rattle.termwiz_surface.specs.Carried.{IsGivenBy}
-use Rattle.termwiz_surface.specs.Surface.{SurfaceValue}
-use Rattle.termwiz_wire.specs.Sent.{answer}
-use Rattle.sessions.specs.Answering.{AnswersAll, AnswersFirst, Ended, IsAnswered, MayAnswer, Next, WritesAnswers}
+use Rattle.sessions.specs.Answering.{Answers, AnswersAll, AnswersFirst, DoesLine, Ended, Next, SendsLine, WritesAnswers}
 use Rattle.sessions.specs.Requests.{MaySay, SaysRequest}
-use Rattle.sessions.specs.Sending.{bytes_of, columns, first_surface, stream_of}
+use Rattle.sessions.specs.Sending.{Sender, bytes_of, first_source, stream_of}
 use Rattle.sessions.specs.declared.send.runs.Request.{Request}
 use Rattle.sessions.specs.declared.send.runs.SendOutcome.{SendOutcome}
 use Rattle.sessions.specs.Writing.{AppendsSome}
@@ -26,9 +19,6 @@ use Rattle.sessions.proofs.Writing.{some_all, some_next}
 
 abbrev pub Known : Type 0
 Known = Option (List ℕ)
-
-abbrev Surfaces : Type 0
-Surfaces = SurfaceValue UnicodeWidths
 
 -- the lines of known bytes say these requests
 abbrev pub SayAll : Known → List Request → Type 0
@@ -81,56 +71,58 @@ says_first_none : (known : Known) → SayFirstAll known []
 says_first_none None = tt
 says_first_none (Some xs) = NoMore xs
 
--- the bytes of an answer
-pub answered_by : (source : ℕ) (s : Surfaces) (n : ℕ) (bytes : Vec ℕ Global) (k : ℕ) (a : AnswerValue) → IsGivenBy screens columns s n a → bytes.items ≡ answer unicode_columns (record { source = source; answer = a }) → k ≡ a.number → IsAnswered source s n bytes k
-answered_by source s n bytes k a given is number = record { given = a; is_given = given; encoded = is; number = number }
+-- what a line asks for is done
+pub line_done : (line : List ℕ) (s t : Sender) (n k : ℕ) (request : Request) (outcome : SendOutcome) (holds : List ℕ → Type 0) → MaySay line (Some request) → Answers s n request outcome t k → holds (bytes_of outcome) → SendsLine line s n t k holds
+line_done line s t n k request outcome holds says answers written = record {
+  outcomes = outcome ∷ [];
+  does = (says.0, (request, says.1, answers));
+  written = subst holds (sym (append-nil (bytes_of outcome))) written;
+}
 
 module _ (source w h : ℕ) (input : Known) where
   -- the lines so far are done, with these outcomes, and any run goes on with the others
-  pub record IsDone (outcomes : List SendOutcome) (rest : Known) (s : Surfaces) (n : ℕ) : Type 0 where
+  pub record IsDone (outcomes : List SendOutcome) (rest : Known) (s : Sender) (n : ℕ) : Type 0 where
     pub requests : List Request
     pub said : (more : List Request) → SayAll rest more → SayAll input (requests ++ more)
     pub said_first : (more : List Request) → SayFirstAll rest more → SayFirstAll input (requests ++ more)
-    pub answered : (more : List Request) (later : List SendOutcome) → AnswersAll source s n more later → AnswersAll source (first_surface w h) 0 (requests ++ more) (outcomes ++ later)
+    pub answered : (more : List Request) (later : List SendOutcome) → AnswersAll s n more later → AnswersAll (first_source source w h) 0 (requests ++ more) (outcomes ++ later)
 
   -- a line more is done, which may send something
-  done_on : (outcomes : List SendOutcome) (rest left : Known) (line : List ℕ) (s t : Surfaces) (n k : ℕ) (request : Option Request) (outcome : Option SendOutcome) (sent : List SendOutcome) → IsDone outcomes rest s n → HasCome line rest left
-      → MaySay line request → MayAnswer source s n request outcome t k → MatchOption outcome (sent ≡ []) (λ x. sent ≡ x ∷ []) → IsDone (outcomes ++ sent) left t k
-  done_on outcomes rest left line s t n k None None sent run come says answer is =
-      let same : outcomes ++ sent ≡ outcomes = ap (λ (l : List SendOutcome). outcomes ++ l) is ∙ append-nil outcomes in
-      subst (λ (all : List SendOutcome). IsDone all left t k) (sym same) (record {
+  done_on : (outcomes : List SendOutcome) (rest left : Known) (line : List ℕ) (s t : Sender) (n k : ℕ) (sent : List SendOutcome) → IsDone outcomes rest s n → HasCome line rest left → DoesLine line s n sent t k → IsDone (outcomes ++ sent) left t k
+  done_on outcomes rest left line s t n k [] run come does =
+      subst (λ (all : List SendOutcome). IsDone all left t k) (sym (append-nil outcomes)) (record {
         requests = run.requests;
-        said = λ more later. run.said more (says_more line rest left [] more come (inl (says, refl)) later);
-        said_first = λ more later. run.said_first more (says_first_more line rest left [] more come (inl (says, refl)) later);
+        said = λ more later. run.said more (says_more line rest left [] more come (inl (does.0, refl)) later);
+        said_first = λ more later. run.said_first more (says_first_more line rest left [] more come (inl (does.0, refl)) later);
         answered = λ more later on.
-            let P : Surfaces → Type 0 = λ u. AnswersAll source u k more later in
-            let Q : ℕ → Type 0 = λ j. AnswersAll source s j more later in
-            run.answered more later (subst Q answer.1 (subst P answer.0 on));
+            let P : Sender → Type 0 = λ u. AnswersAll u k more later in
+            let Q : ℕ → Type 0 = λ j. AnswersAll s j more later in
+            run.answered more later (subst Q does.2 (subst P does.1 on));
       })
-  done_on outcomes rest left line s t n k (Some request) (Some outcome) sent run come says answer is =
-      subst (λ (l : List SendOutcome). IsDone (outcomes ++ l) left t k) (sym is) (record {
+  done_on outcomes rest left line s t n k (outcome ∷ []) run come does =
+      let (some, (request, says, answers)) = does in
+      record {
         requests = run.requests ++ request ∷ [];
         said = λ more later.
             subst (λ (all : List Request). SayAll input all) (sym (append_assoc run.requests (request ∷ []) more))
-            (run.said (request ∷ more) (says_more line rest left (request ∷ []) more come (inr (says.0, (request, says.1, refl))) later));
+            (run.said (request ∷ more) (says_more line rest left (request ∷ []) more come (inr (some, (request, says, refl))) later));
         said_first = λ more later.
             subst (λ (all : List Request). SayFirstAll input all) (sym (append_assoc run.requests (request ∷ []) more))
-            (run.said_first (request ∷ more) (says_first_more line rest left (request ∷ []) more come (inr (says.0, (request, says.1, refl))) later));
+            (run.said_first (request ∷ more) (says_first_more line rest left (request ∷ []) more come (inr (some, (request, says, refl))) later));
         answered = λ more later on.
             rw (append_assoc run.requests (request ∷ []) more, append_assoc outcomes (outcome ∷ []) later)
-            (run.answered (request ∷ more) (outcome ∷ later) (Next s t n k request outcome more later answer on));
-      })
-  done_on outcomes rest left line s t n k (Some request) None sent run come says answer is = absurd answer
-  done_on outcomes rest left line s t n k None (Some outcome) sent run come says answer is = absurd answer
+            (run.answered (request ∷ more) (outcome ∷ later) (Next s t n k request outcome more later answers on));
+      }
+  done_on outcomes rest left line s t n k (outcome ∷ other ∷ more) run come does = absurd does
 
   -- nothing comes behind them
-  all_answered : (outcomes : List SendOutcome) (rest : Known) (s : Surfaces) (n : ℕ) (run : IsDone outcomes rest s n) → AnswersAll source (first_surface w h) 0 run.requests outcomes
+  all_answered : (outcomes : List SendOutcome) (rest : Known) (s : Sender) (n : ℕ) (run : IsDone outcomes rest s n) → AnswersAll (first_source source w h) 0 run.requests outcomes
   all_answered outcomes rest s n run =
-      let P : List Request → Type 0 = λ all. AnswersAll source (first_surface w h) 0 all outcomes in
-      let Q : List SendOutcome → Type 0 = λ all. AnswersAll source (first_surface w h) 0 (run.requests ++ []) all in
+      let P : List Request → Type 0 = λ all. AnswersAll (first_source source w h) 0 all outcomes in
+      let Q : List SendOutcome → Type 0 = λ all. AnswersAll (first_source source w h) 0 (run.requests ++ []) all in
       subst P (append-nil run.requests) (subst Q (append-nil outcomes) (run.answered [] [] (Ended s n)))
 
-  done_first : (outcomes : List SendOutcome) (rest : Known) (s : Surfaces) (n : ℕ) (P : List ℕ → Type 0) → IsDone outcomes rest s n → P (stream_of outcomes) → AnswersFirst source w h input P
+  done_first : (outcomes : List SendOutcome) (rest : Known) (s : Sender) (n : ℕ) (P : List ℕ → Type 0) → IsDone outcomes rest s n → P (stream_of outcomes) → AnswersFirst source w h input P
   done_first outcomes rest s n P run written = record {
     requests = run.requests;
     said = subst (λ (all : List Request). SayFirstAll input all) (append-nil run.requests) (run.said_first [] (says_first_none rest));
@@ -145,46 +137,46 @@ module _ (source w h : ℕ) (input : Known) where
     requests = [];
     said = says_first_none input;
     outcomes = [];
-    answered = Ended (first_surface w h) 0;
+    answered = Ended (first_source source w h) 0;
     written = written;
   }
 
   module _ (old : Known) where
     -- and what they send is written
-    pub record IsSoFar (rest : Known) (s : Surfaces) (n : ℕ) (new : Known) : Type 0 where
+    pub record IsSoFar (rest : Known) (s : Sender) (n : ℕ) (new : Known) : Type 0 where
       pub outcomes : List SendOutcome
       pub done : IsDone outcomes rest s n
       pub written : Appends old new (stream_of outcomes)
 
-    pub so_far_first : (s : Surfaces) (n : ℕ) → s ≡ first_surface w h → n ≡ 0 → IsSoFar input s n old
+    pub so_far_first : (s : Sender) (n : ℕ) → s ≡ first_source source w h → n ≡ 0 → IsSoFar input s n old
     so_far_first s n is none =
-        let P : Surfaces → Type 0 = λ t. IsSoFar input t n old in
-        let Q : ℕ → Type 0 = λ k. IsSoFar input (first_surface w h) k old in
+        let P : Sender → Type 0 = λ t. IsSoFar input t n old in
+        let Q : ℕ → Type 0 = λ k. IsSoFar input (first_source source w h) k old in
         subst P (sym is) (subst Q (sym none) (record {
           outcomes = [];
           done = record { requests = []; said = λ more later. later; said_first = λ more later. later; answered = λ more later run. run };
           written = Appends-nil old;
         }))
 
-    module _ (rest left : Known) (line : List ℕ) (s t : Surfaces) (n k : ℕ) (new newer : Known) (request : Option Request) (outcome : Option SendOutcome) (sent : List SendOutcome) (run : IsSoFar rest s n new) where
+    module _ (rest left : Known) (line : List ℕ) (s t : Sender) (n k : ℕ) (new newer : Known) (run : IsSoFar rest s n new) (come : HasCome line rest left) where
       -- a line is done, and what it sends is written
-      pub so_far_on : HasCome line rest left → MaySay line request → MayAnswer source s n request outcome t k → MatchOption outcome (sent ≡ []) (λ x. sent ≡ x ∷ []) → Appends new newer (stream_of sent) → IsSoFar left t k newer
-      so_far_on come says answer is appended = record {
-        outcomes = run.outcomes ++ sent;
-        done = done_on run.outcomes rest left line s t n k request outcome sent run.done come says answer is;
+      pub so_far_on : SendsLine line s n t k (Appends new newer) → IsSoFar left t k newer
+      so_far_on sends = record {
+        outcomes = run.outcomes ++ sends.outcomes;
+        done = done_on run.outcomes rest left line s t n k sends.outcomes run.done come sends.does;
         written =
-            subst (λ (bytes : List ℕ). Appends old newer bytes) (sym (flat_map-append bytes_of run.outcomes sent))
-            (Appends-trans old new newer (stream_of run.outcomes) (stream_of sent) run.written appended);
+            subst (λ (bytes : List ℕ). Appends old newer bytes) (sym (flat_map-append bytes_of run.outcomes sends.outcomes))
+            (Appends-trans old new newer (stream_of run.outcomes) (stream_of sends.outcomes) run.written sends.written);
       }
 
       -- or a beginning of that
-      pub so_far_cut : HasCome line rest left → MaySay line request → MayAnswer source s n request outcome t k → MatchOption outcome (sent ≡ []) (λ x. sent ≡ x ∷ []) → AppendsSome new newer (stream_of sent) → AnswersFirst source w h input (AppendsSome old newer)
-      so_far_cut come says answer is appended =
-          done_first (run.outcomes ++ sent) left t k (AppendsSome old newer) (done_on run.outcomes rest left line s t n k request outcome sent run.done come says answer is)
-          (subst (λ (bytes : List ℕ). AppendsSome old newer bytes) (sym (flat_map-append bytes_of run.outcomes sent))
-          (some_next old new newer (stream_of run.outcomes) (stream_of sent) run.written appended))
+      pub so_far_cut : SendsLine line s n t k (AppendsSome new newer) → AnswersFirst source w h input (AppendsSome old newer)
+      so_far_cut sends =
+          done_first (run.outcomes ++ sends.outcomes) left t k (AppendsSome old newer) (done_on run.outcomes rest left line s t n k sends.outcomes run.done come sends.does)
+          (subst (λ (bytes : List ℕ). AppendsSome old newer bytes) (sym (flat_map-append bytes_of run.outcomes sends.outcomes))
+          (some_next old new newer (stream_of run.outcomes) (stream_of sends.outcomes) run.written sends.written))
 
-    module _ (rest : Known) (s : Surfaces) (n : ℕ) (new : Known) (run : IsSoFar rest s n new) where
+    module _ (rest : Known) (s : Sender) (n : ℕ) (new : Known) (run : IsSoFar rest s n new) where
       -- no line is left
       pub so_far_ended : IsAtEnd rest → WritesAnswers source w h input old new
       so_far_ended end = record {

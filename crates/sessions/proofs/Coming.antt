@@ -1,21 +1,34 @@
--- What a watcher makes of all the bytes that come, by what it makes of those that came.
-use Rattle.std.proofs.Common.{◌≡◌, ℕ, ◌+◌, ◌∙◌, Bool, true, false, cond, eqb, ◌||◌, List, [], ◌∷◌, ◌++◌, length, inl, inr, refl, sym, ap, subst, append-nil, arith}
+-- What a client makes of all the bytes that come, by what it makes of those that came.
+use Rattle.std.proofs.Common.{◌≡◌, ◌⊎◌, ℕ, ◌<◌, ◌∙◌, true, List, [], ◌∷◌, ◌++◌, inl, inr, refl, sym, ap, subst, append-nil}
 use Rattle.std.specs.Prelude.{Option, None, Some, Result, Ok, Err, IfSome}
 use Rattle.std.specs.Io.KnownBytes.{IsAtEnd, Keeps, prepend_known}
-use Rattle.std.proofs.lemmas.Bool.{cases_Bool, eq-eqb, true≢false}
-use Rattle.std.proofs.lemmas.List.{length-append, nil_from_length}
+use Rattle.termwiz_cell.specs.Width.{unicode_columns}
+use Rattle.termwiz_cell.specs.declared.emoji.UnicodeWidths.{UnicodeWidths}
+use Rattle.termwiz_share.specs.Client.{ClientValue, Shown, has_other_size, shown_by, size_place}
+use Rattle.termwiz_share.specs.Feeding.{AreCut, EndsHere, Steps, TakesNext}
+use Rattle.termwiz_share.specs.declared.error.ClientError.{ClientError}
+use Rattle.termwiz_share.specs.declared.error.ClientError.TheVariants as errors
+use Rattle.termwiz_share.specs.declared.taken.Taken.{Taken}
+use Rattle.termwiz_share.specs.declared.taken.Taken.TheVariants as outcomes
+use Rattle.termwiz_share.proofs.Streams.{err_is, ok_or_err}
+use Rattle.termwiz_share.proofs.Taking.{no_size, none_taken}
+use Rattle.termwiz_wire.specs.Answers.{answer_at}
+use Rattle.termwiz_wire.specs.MoreBytes.{Goes, IsCut}
+use Rattle.termwiz_wire.specs.declared.fault.Fault.{Fault}
 use Rattle.termwiz_wire.specs.declared.fault.Limits.{Limits}
-use Rattle.sessions.specs.Taking.{IsShown, ShowsComing, ShowsPending, WatcherValue, coming, cut_by, is_cut}
-use Rattle.sessions.specs.Viewing.{Viewing}
-use Rattle.sessions.specs.Watching.{TakesNext, TakesNone}
-use Rattle.sessions.specs.declared.watch.viewer.AnswerFault.{AnswerFault}
-use Rattle.sessions.specs.declared.watch.viewer.View.{View}
-use Rattle.sessions.specs.declared.watch.viewer.WatchError.{WatchError}
-use Rattle.sessions.specs.declared.watch.viewer.WatchError.TheVariants.{Fault, Unreadable, Memory}
-use Rattle.sessions.proofs.Taking.{takes_more, fails_more}
+use Rattle.termwiz_wire.specs.declared.sent.SentAnswer.{SentAnswer}
+use Rattle.termwiz_wire.proofs.PastLimits.{laws}
+use Rattle.sessions.specs.Sending.{columns}
+use Rattle.sessions.specs.Taking.{IsSession, TakesComing, TakesOne, coming, of_client}
+use Rattle.sessions.specs.Watching.{TakesNone}
+use Rattle.sessions.specs.declared.watch.stream.StreamError.{StreamError}
+use Rattle.sessions.specs.declared.watch.stream.StreamError.TheVariants.{Answer, Session}
 
-abbrev Bytes : Type 0
+abbrev pub Bytes : Type 0
 Bytes = List ℕ
+
+abbrev pub Viewer : Type 0
+Viewer = ClientValue UnicodeWidths
 
 pub keeps_same : (known : Option Bytes) → Keeps known known
 keeps_same None = tt
@@ -32,18 +45,14 @@ pub if_known : (known : Option Bytes) (P : Bytes → Type 0) → ((bytes : Bytes
 if_known None P law = tt
 if_known (Some bytes) P law = law bytes refl
 
+pub if_some : (known : Option Bytes) (P Q : Bytes → Type 0) → ((bytes : Bytes) → P bytes → Q bytes) → IfSome known P → IfSome known Q
+if_some None P Q law p = tt
+if_some (Some bytes) P Q law p = law bytes p
+
 keeps_known : (a b : Option Bytes) (bytes : Bytes) → a ≡ Some bytes → Keeps a b → b ≡ Some bytes
 keeps_known None b bytes is keeps = cc
 keeps_known (Some x) None bytes is keeps = absurd keeps
 keeps_known (Some x) (Some y) bytes is keeps = ap (λ (z : Bytes). Some z) keeps ∙ is
-
-or_left : (a b : Bool) → (a || b) ≡ false → a ≡ false
-or_left true b is = is
-or_left false b is = refl
-
-or_right : (a b : Bool) → (a || b) ≡ false → b ≡ false
-or_right true b is = absurd (true≢false is)
-or_right false b is = is
 
 -- the bytes that are to be read
 record IsRest (pending bytes : Bytes) (remaining : Option Bytes) : Type 0 where
@@ -55,60 +64,133 @@ rest_of : (pending bytes : Bytes) (remaining : Option Bytes) → prepend_known p
 rest_of pending bytes None is = cc
 rest_of pending bytes (Some rest) is = record { rest = rest; known = refl; all = cc }
 
--- a watcher with these bytes to come is still where it began
-pub record IsThere (limits : Limits) (v : Viewing) (known : Option Bytes) (now : WatcherValue) (later : Option Bytes) : Type 0 where
-  pub limits_are : now.limits ≡ limits
-  pub viewing_is : now.viewing ≡ v
+at_end : (rest : Bytes) (remaining : Option Bytes) → remaining ≡ Some rest → IsAtEnd remaining → rest ≡ []
+at_end rest None is end = cc
+at_end rest (Some bytes) is end = let same : bytes ≡ rest = cc in sym same ∙ end
+
+nil_front : (a b : Bytes) → a ++ b ≡ [] → a ≡ []
+nil_front [] b e = refl
+nil_front (x ∷ a) b e = cc
+
+module _ (limits : Limits) (some : 0 < limits.bytes) where
+  goes : Goes (answer_at unicode_columns limits) IsCut
+  goes = (laws unicode_columns limits some).goes
+
+  -- what is taken is taken where more bytes come
+  more_one : (s u : Shown) (bytes left more : Bytes) (t : Taken) → TakesOne limits s bytes t u left → TakesOne limits s (bytes ++ more) t u (left ++ more)
+  more_one s u bytes left more t one = record {
+    sent = one.sent;
+    decoded = goes.value bytes more one.sent left one.decoded;
+    size = one.size;
+    outcome = one.outcome;
+    shows = one.shows;
+  }
+
+  -- something is there to be decoded
+  some_value : (bytes : Bytes) (a : SentAnswer) (left : Bytes) → answer_at unicode_columns limits bytes ≡ Ok (a, left) → bytes ≡ [] → ⊥
+  some_value bytes a left is none = ok_or_err (a, left) goes.first (answer_at unicode_columns limits []) (ap (answer_at unicode_columns limits) (sym none) ∙ is) goes.starts
+
+  some_fault : (bytes : Bytes) (f : Fault) → answer_at unicode_columns limits bytes ≡ Err f → (IsCut f → ⊥) → bytes ≡ [] → ⊥
+  some_fault bytes f is other none =
+      let same : f ≡ goes.first = err_is f goes.first (answer_at unicode_columns limits []) (ap (answer_at unicode_columns limits) (sym none) ∙ is) goes.starts in
+      other (ap (λ (x : Fault). x.kind) same ∙ goes.starts_cut)
+
+  -- an answer that a client took off its bytes
+  took : (c d : Viewer) (t : Taken) → c.limits ≡ limits → Steps columns c (Ok (Some t)) d → TakesOne limits (shown_by c) c.kept t (shown_by d) d.kept
+  took c d outcomes.Shown same s = record { sent = s.0; decoded = rw same at s.1; size = s.3; outcome = rw s.2 refl; shows = s.4 }
+  took c d (outcomes.Stale at) same s = record {
+    sent = s.0;
+    decoded = rw same at s.1;
+    size = no_size (shown_by c) s.0 s.2;
+    outcome = rw s.2 (ap (λ (k : ℕ). outcomes.Stale k) s.3);
+    shows = ap shown_by s.4 ∙ sym (none_taken unicode_columns (shown_by c) s.0 s.2);
+  }
+
+-- a client with these bytes to come shows what it showed first
+pub record IsThere (first : Viewer) (known : Option Bytes) (now : Viewer) (later : Option Bytes) : Type 0 where
+  pub limits : now.limits ≡ first.limits
+  pub reading : now.stopped ≡ None
+  pub shows : shown_by now ≡ shown_by first
   pub keeps : Keeps known (coming now later)
 
-module _ (limits : Limits) (v : Viewing) (known : Option Bytes) (now : WatcherValue) (later : Option Bytes) (there : IsThere limits v known now later) where
-  all_of : (bytes : Bytes) → known ≡ Some bytes → IsRest now.pending bytes later
-  all_of bytes is = rest_of now.pending bytes later (keeps_known known (coming now later) bytes is there.keeps)
+pub there_first : (c : Viewer) (later : Option Bytes) → c.stopped ≡ None → IsThere c (coming c later) c later
+there_first c later reading = record { limits = refl; reading = reading; shows = refl; keeps = keeps_same (coming c later) }
+
+pub there_on : (first : Viewer) (known : Option Bytes) (now new : Viewer) (later after : Option Bytes) → IsThere first known now later → new.limits ≡ now.limits → shown_by new ≡ shown_by now → new.stopped ≡ None → Keeps (coming now later) (coming new after) → IsThere first known new after
+there_on first known now new later after there limits shows reading keeps = record {
+  limits = limits ∙ there.limits;
+  reading = reading;
+  shows = shows ∙ there.shows;
+  keeps = keeps_on known (coming now later) (coming new after) there.keeps keeps;
+}
+
+module _ (first : Viewer) (some : 0 < first.limits.bytes) (known : Option Bytes) (now : Viewer) (later : Option Bytes) (there : IsThere first known now later) where
+  all_of : (bytes : Bytes) → known ≡ Some bytes → IsRest now.kept bytes later
+  all_of bytes is = rest_of now.kept bytes later (keeps_known known (coming now later) bytes is there.keeps)
+
+  abbrev Comes : Result (Option Taken) StreamError → Viewer → Option Bytes → Type 0
+  Comes result new after = IfSome known (λ bytes. TakesComing first.limits (shown_by first) bytes result (shown_by new) (coming new after))
+
+  open_step : (new : Viewer) (r : Result (Option Taken) ClientError) → TakesNext columns now r new → Steps columns now r new
+  open_step new r (inl stopped) = absurd (let bad : Some stopped.0 ≡ None = sym stopped.1 ∙ there.reading in let no_way : ⊥ = cc in no_way)
+  open_step new r (inr step) = step.1
 
   -- an answer is taken
-  pub shows_taken : (new : WatcherValue) (view : View) → ShowsPending now (Ok view) new → IfSome known (λ bytes. ShowsComing limits v bytes (Ok (Some view)) new.viewing (coming new later))
-  shows_taken new view shows = if_known known (λ bytes. ShowsComing limits v bytes (Ok (Some view)) new.viewing (coming new later)) (λ bytes is.
+  pub comes_taken : (new : Viewer) (t : Taken) → TakesNext columns now (Ok (Some t)) new → Comes (Ok (Some t)) new later
+  comes_taken new t next = if_known known (λ bytes. TakesComing first.limits (shown_by first) bytes (Ok (Some t)) (shown_by new) (coming new later)) (λ bytes is.
       let rest = all_of bytes is in
-      let here : TakesNext limits v now.pending new.viewing new.pending =
-      subst (λ (l : Limits). TakesNext l v now.pending new.viewing new.pending) there.limits_are
-      (subst (λ (u : Viewing). TakesNext now.limits u now.pending new.viewing new.pending) there.viewing_is shows.0) in (
-        new.pending ++ rest.rest,
-        ap (prepend_known new.pending) rest.known,
-        subst (λ (b : Bytes). TakesNext limits v b new.viewing (new.pending ++ rest.rest)) (sym rest.all) (takes_more limits v new.viewing now.pending new.pending rest.rest here),
-        shows.1,
+      let here : TakesOne first.limits (shown_by first) now.kept t (shown_by new) new.kept = subst (λ (s : Shown). TakesOne first.limits s now.kept t (shown_by new) new.kept) there.shows (took first.limits some now new t there.limits (open_step new (Ok (Some t)) next)) in (
+        new.kept ++ rest.rest,
+        ap (prepend_known new.kept) rest.known,
+        subst (λ (b : Bytes). TakesOne first.limits (shown_by first) b t (shown_by new) (new.kept ++ rest.rest)) (sym rest.all) (more_one first.limits some (shown_by first) (shown_by new) now.kept new.kept rest.rest t here),
       ))
 
-  -- no answer is taken of them, and more bytes make none
-  fails_here : (new : WatcherValue) (why : AnswerFault) (bytes : Bytes) → known ≡ Some bytes → is_cut why ≡ false → ShowsPending now (Err (Fault why)) new → TakesNone limits v bytes why
-  fails_here new why bytes is whole shows =
+  -- the next one isn't
+  fails : (new : Viewer) (e : ClientError) → Steps columns now (Err e) new → (bytes : Bytes) → known ≡ Some bytes → TakesComing first.limits (shown_by first) bytes (Err (of_client e)) (shown_by new) (coming new later)
+  fails new (errors.Fault f) step bytes is =
       let rest = all_of bytes is in
-      let here : TakesNone limits v now.pending why =
-      subst (λ (l : Limits). TakesNone l v now.pending why) there.limits_are
-      (subst (λ (u : Viewing). TakesNone now.limits u now.pending why) there.viewing_is shows.0) in
-      subst (λ (b : Bytes). TakesNone limits v b why) (sym rest.all) (fails_more limits v now.pending rest.rest why whole here)
-
-  some_here : (new : WatcherValue) (bytes : Bytes) → known ≡ Some bytes → new ≡ now → eqb (length new.pending) 0 ≡ false → bytes ≡ [] → ⊥
-  some_here new bytes is same some none =
+      let here : answer_at unicode_columns first.limits now.kept ≡ Err f = rw there.limits at step.0 in
+      let there_too : answer_at unicode_columns first.limits bytes ≡ Err f = ap (answer_at unicode_columns first.limits) rest.all ∙ (goes first.limits some).fault now.kept rest.rest f here step.1 in
+      (some_fault first.limits some bytes f there_too step.1, there_too, ap shown_by step.2 ∙ there.shows)
+  fails new (errors.Size at) step bytes is =
       let rest = all_of bytes is in
-      let lens : 0 ≡ length now.pending + length rest.rest = ap length (sym none ∙ rest.all) ∙ length-append now.pending rest.rest in
-      let pending : length new.pending ≡ length now.pending = ap (λ (w : WatcherValue). length w.pending) same in
-      let zero : length new.pending ≡ 0 = omega (arith, lens, pending) in
-      true≢false (sym (eq-eqb (length new.pending) 0 zero) ∙ some)
+      let here : answer_at unicode_columns first.limits now.kept ≡ Ok (step.0, step.1) = rw there.limits at step.2 in
+      let there_too : answer_at unicode_columns first.limits bytes ≡ Ok (step.0, step.1 ++ rest.rest) = ap (answer_at unicode_columns first.limits) rest.all ∙ (goes first.limits some).value now.kept rest.rest step.0 step.1 here in
+      (some_value first.limits some bytes step.0 (step.1 ++ rest.rest) there_too, (step.0, step.1 ++ rest.rest, there_too, subst (λ (s : Shown). has_other_size s step.0 ≡ true) there.shows step.3, subst (λ (s : Shown). at ≡ size_place s step.0) there.shows step.4), ap shown_by step.5 ∙ there.shows)
+  fails new errors.Numbers step bytes is = tt
+  fails new errors.Memory step bytes is = tt
 
-  abbrev Failed : WatcherValue → WatchError → Type 0
-  Failed new error = IfSome known (λ bytes. ShowsComing limits v bytes (Err error) new.viewing (coming new later))
+  pub comes_failed : (new : Viewer) (e : ClientError) → TakesNext columns now (Err e) new → Comes (Err (of_client e)) new later
+  comes_failed new e next = if_known known (λ bytes. TakesComing first.limits (shown_by first) bytes (Err (of_client e)) (shown_by new) (coming new later)) (λ bytes is. fails new e (open_step new (Err e) next) bytes is)
 
-  pub shows_failed : (new : WatcherValue) (error stays : WatchError) → ShowsPending now (Err error) new → cut_by (eqb (length new.pending) 0) error ≡ Err stays → Failed new stays
-  shows_failed new (Fault why) stays shows is =
-      elim (cases_Bool (is_cut why || eqb (length new.pending) 0)) [
-        | inl cut ↦ let e = rw cut at is in cc
-        | inr whole ↦
-            let e : Fault why ≡ stays = cc (rw whole at is) in
-            subst (λ (error : WatchError). Failed new error) e
-            (if_known known (λ bytes. ShowsComing limits v bytes (Err (Fault why)) new.viewing (coming new later)) (λ bytes is.
-            (some_here new bytes is shows.1 (or_right (is_cut why) (eqb (length new.pending) 0) whole), fails_here new why bytes is (or_left (is_cut why) (eqb (length new.pending) 0) whole) shows)))
-      ]
-  shows_failed new Unreadable stays shows is = absurd shows
-  shows_failed new Memory stays shows is =
-      let e : Memory ≡ stays = cc in
-      subst (λ (error : WatchError). Failed new error) e (if_known known (λ bytes. Unit {0}) (λ bytes is. tt))
+  -- the stream ends, where the bytes make no answer
+  module _ (end : IsAtEnd later) where
+    all_kept : (bytes : Bytes) → known ≡ Some bytes → bytes ≡ now.kept
+    all_kept bytes is = let rest = all_of bytes is in rest.all ∙ ap (λ (l : Bytes). now.kept ++ l) (at_end rest.rest later rest.known end) ∙ append-nil now.kept
+
+    pub comes_ended : AreCut unicode_columns now.limits now.kept → EndsHere columns now (Ok tt) → Comes (Ok None) now later
+    comes_ended cut (inl none) = if_known known (λ bytes. TakesComing first.limits (shown_by first) bytes (Ok None) (shown_by now) (coming now later)) (λ bytes is. (all_kept bytes is ∙ none, there.shows))
+    comes_ended cut (inr whole) = absurd (ok_or_err (whole.0, whole.1) cut.fault (answer_at unicode_columns now.limits now.kept) whole.2 cut.is)
+
+    ends : (e : ClientError) → EndsHere columns now (Err e) → (bytes : Bytes) → known ≡ Some bytes → TakesComing first.limits (shown_by first) bytes (Err (of_client e)) (shown_by now) (coming now later)
+    ends (errors.Fault f) here bytes is =
+        let all = all_kept bytes is in
+        (λ none. here.0 (sym all ∙ none), ap (answer_at unicode_columns first.limits) all ∙ (rw there.limits at here.1), there.shows)
+    ends (errors.Size at) here bytes is = absurd here
+    ends errors.Numbers here bytes is = absurd here
+    ends errors.Memory here bytes is = tt
+
+    pub comes_cut : (e : ClientError) → EndsHere columns now (Err e) → Comes (Err (of_client e)) now later
+    comes_cut e here = if_known known (λ bytes. TakesComing first.limits (shown_by first) bytes (Err (of_client e)) (shown_by now) (coming now later)) (ends e here)
+
+  -- no answer is whole, and the client is where it was
+  pub there_none : (new : Viewer) → TakesNext columns now (Ok None) new → IsThere first known new later
+  there_none new next = subst (λ (v : Viewer). IsThere first known v later) (sym (open_step new (Ok None) next).1) there
+
+  pub cut_none : (new : Viewer) → TakesNext columns now (Ok None) new → AreCut unicode_columns new.limits new.kept
+  cut_none new next = let step = open_step new (Ok None) next in subst (λ (v : Viewer). AreCut unicode_columns v.limits v.kept) (sym step.1) step.0
+
+  -- the bytes can't be read, or kept
+  pub comes_session : (new : Viewer) (after : Option Bytes) (e : StreamError) → IsSession e → Comes (Err e) new after
+  comes_session new after (Answer e) bad = absurd bad
+  comes_session new after (Session e) is = if_known known (λ bytes. Unit {0}) (λ bytes known_is. tt)

@@ -2,14 +2,11 @@ mod Answered
 mod Asking
 mod Chains
 mod Coming
-mod Deciding
 mod Fresh
 mod Leading
 mod Lines
 mod StreamPrinted
 mod Requested
 mod Sent
-mod Taking
 mod Watched
-mod Wire
 mod Writing

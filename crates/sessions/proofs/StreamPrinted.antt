@@ -1,133 +1,234 @@
 -- What is printed of a stream, as far as it has come.
-use Rattle.std.proofs.Common.{◌≡◌, ℕ, ◌+◌, ◌∙◌, Bool, true, false, List, [], ◌∷◌, ◌++◌, length, map, refl, sym, ap, subst, append-nil, append_assoc}
+use Rattle.std.proofs.Common.{◌≡◌, ℕ, ◌+◌, ◌∙◌, Bool, true, false, List, [], ◌∷◌, ◌++◌, refl, sym, ap, subst, append-nil}
 use Rattle.std.specs.Io.KnownBytes.{Appends}
 use Rattle.std.specs.List.{flat_map}
 use Rattle.std.specs.Prelude.{Option, None, Some, IfSome, Result, Ok, Err, if◌then◌else◌}
+use Rattle.std.proofs.KnownBytes.{Appends-nil, Appends-trans}
 use Rattle.std.proofs.lemmas.Bool.{true≢false}
 use Rattle.std.proofs.lemmas.List.Concat.{flat_map-append}
+use Rattle.termwiz_share.specs.Client.{Shown, shown_by}
+use Rattle.termwiz_share.specs.declared.error.ClientError.{ClientError}
+use Rattle.termwiz_share.specs.declared.taken.Taken.{Taken}
+use Rattle.termwiz_share.specs.declared.taken.Taken.TheVariants as outcomes
+use Rattle.sessions.specs.Frames.{first_shown}
+use Rattle.sessions.specs.Printed.{stale_line}
+use Rattle.sessions.specs.Printing.{Finishes, Outputs, Prints, PrintsOne, PrintsUpTo, end_by, pending_lines, shown_lines, whole}
+use Rattle.sessions.specs.Taking.{TakesComing, coming}
+use Rattle.sessions.specs.Watching.{TakesUpTo, kept, shown_each, stale_each}
 use Rattle.sessions.specs.declared.ending.SessionError.{SessionError}
-use Rattle.sessions.specs.Printing.{Prints, PrintsUpTo, end_by, last_lines, shown_lines, view_lines}
-use Rattle.sessions.specs.Taking.{WatcherValue}
-use Rattle.sessions.specs.Viewing.{first_viewing}
-use Rattle.sessions.specs.Watching.{Shown, kept, shown_by, shown_of}
-use Rattle.sessions.specs.declared.watch.viewer.AnswerFault.{AnswerFault}
-use Rattle.sessions.specs.declared.watch.viewer.View.{View}
-use Rattle.sessions.specs.declared.watch.viewer.WatchError.{WatchError}
-use Rattle.sessions.specs.declared.watch.viewer.WatchError.TheVariants.{Fault, Unreadable, Memory}
 use Rattle.sessions.specs.declared.watch.WatchEnd.{WatchEnd}
-use Rattle.sessions.specs.declared.watch.WatchEnd.TheVariants.{Session}
+use Rattle.sessions.specs.declared.watch.WatchEnd.TheVariants.{Fault, Session, Stale}
+use Rattle.sessions.specs.declared.watch.printing.Printing.{Printing}
+use Rattle.sessions.specs.declared.watch.stream.StreamError.{StreamError}
+use Rattle.sessions.specs.declared.watch.stream.StreamError.TheVariants as stream
 use Rattle.sessions.specs.declared.words.WatchOptions.{WatchOptions}
-use Rattle.sessions.proofs.Coming.{if_known}
-use Rattle.sessions.proofs.Watched.{HasEnded, IsOn, NextShows, if_some, on_first, on_taken, on_ended, on_fault}
+use Rattle.termwiz_wire.specs.declared.fault.Limits.{Limits}
+use Rattle.sessions.proofs.Coming.{Bytes, Viewer, if_known, if_some}
+use Rattle.sessions.proofs.Watched.{HasCome, HasNext, Says, Takes, all_come, come_first, fault_come, has_next, kept_last, kept_none, shown_by_one, stale_by_one}
 
-abbrev Bytes : Type 0
-Bytes = List ℕ
+abbrev Lines : Type 0
+Lines = List Shown
 
-all_lines : (views : List View) → flat_map view_lines views ≡ flat_map shown_lines (map shown_by views)
-all_lines [] = refl
-all_lines (view ∷ views) = ap (λ (lines : Bytes). view_lines view ++ lines) (all_lines views)
+abbrev stale_text : ℕ × ℕ → Bytes
+stale_text s = stale_line s.0 s.1
 
-pub appends_none : (known : Option Bytes) → Appends known known []
-appends_none None = tt
-appends_none (Some bytes) = sym (append-nil bytes)
+-- what is printed at once, and what at the end
+abbrev at_once : Bool → Lines → Lines
+at_once each shown = if each then shown else []
 
-pub appends_on : (a b c : Option Bytes) (p q : Bytes) → Appends a b p → Appends b c q → Appends a c (p ++ q)
-appends_on None b c p q first second = tt
-appends_on (Some x) None c p q first second = absurd first
-appends_on (Some x) (Some y) None p q first second = absurd second
-appends_on (Some x) (Some y) (Some z) p q first second = second ∙ ap (λ (bytes : Bytes). bytes ++ q) first ∙ append_assoc x p q
+abbrev at_end : Bool → Lines → Lines
+at_end each shown = if each then [] else kept false shown
 
--- the views are printed, or the last of them is kept
-pub record IsPrinted (each : Bool) (views : List View) (last : Option View) (old now : Option Bytes) : Type 0 where
-  pub printed : Bytes
-  pub written : Appends old now printed
-  pub all : printed ++ last_lines last ≡ flat_map view_lines views
-  pub none_left : each ≡ true → last ≡ None
-  pub none_printed : each ≡ false → printed ≡ []
+both : (each : Bool) (shown : Lines) → kept each shown ≡ at_once each shown ++ at_end each shown
+both true shown = sym (append-nil shown)
+both false shown = refl
 
-pub printed_first : (each : Bool) (known : Option Bytes) → IsPrinted each [] None known known
-printed_first each known = record {
-  printed = [];
-  written = appends_none known;
-  all = refl;
-  none_left = λ e. refl;
-  none_printed = λ e. refl;
+-- these are shown, and now is shown last
+pub record IsPrinted (p : Printing) (shown : Lines) (now : Shown) (old new : Option Bytes) : Type 0 where
+  pub written : Appends old new (flat_map shown_lines (at_once p.each shown))
+  pub pending : at_end p.each shown ≡ (if p.pending then now ∷ [] else [])
+
+-- one more is printed, or pending
+more_printed : (each pending : Bool) (shown : Lines) (now next : Shown) (stale : Bool) (old mid new : Option Bytes) → IsPrinted (record { each = each; pending = pending; stale = stale }) shown now old mid → Appends mid new (if each then shown_lines next else [])
+    → IsPrinted (if each then record { each = each; pending = pending; stale = stale } else record { each = each; pending = true; stale = stale }) (shown ++ next ∷ []) next old new
+more_printed true true shown now next stale old mid new so_far prints = absurd (let bad : [] ≡ now ∷ [] = so_far.pending in let no_way : ⊥ = cc in no_way)
+more_printed true false shown now next stale old mid new so_far prints = record {
+  written = subst (λ (b : Bytes). Appends old new b) (ap (λ (l : Bytes). flat_map shown_lines shown ++ l) (sym (append-nil (shown_lines next))) ∙ sym (flat_map-append shown_lines shown (next ∷ []))) (Appends-trans old mid new (flat_map shown_lines shown) (shown_lines next) so_far.written prints);
+  pending = refl;
+}
+more_printed false pending shown now next stale old mid new so_far prints = record {
+  written = Appends-trans old mid new [] [] so_far.written prints;
+  pending = kept_last shown next;
 }
 
--- a view more is printed, or kept in place of the last one
-pub printed_on : (each : Bool) (views : List View) (view : View) (last next : Option View) (old now new : Option Bytes) → IsPrinted each views last old now → Appends now new (if each then view_lines view else []) → next ≡ (if each then last else Some view)
-    → IsPrinted each ((if each then views else []) ++ view ∷ []) next old new
-printed_on true views view last next old now new p written is =
-    let none : next ≡ None = is ∙ p.none_left refl in
-    let before : p.printed ≡ flat_map view_lines views = sym (append-nil p.printed) ∙ ap (λ (o : Option View). p.printed ++ last_lines o) (sym (p.none_left refl)) ∙ p.all in
-    record {
-      printed = p.printed ++ view_lines view;
-      written = appends_on old now new p.printed (view_lines view) p.written written;
-      all = ap (λ (o : Option View). (p.printed ++ view_lines view) ++ last_lines o) none ∙ append_assoc p.printed (view_lines view) [] ∙ ap (λ (bytes : Bytes). bytes ++ (view_lines view ++ [])) before ∙ sym (flat_map-append view_lines views (view ∷ []));
-      none_left = λ e. none;
-      none_printed = λ e. absurd (true≢false e);
-    }
-printed_on false views view last next old now new p written is = record {
-  printed = [];
-  written = subst (λ (bytes : Bytes). Appends old new (bytes ++ [])) (p.none_printed refl) (appends_on old now new p.printed [] p.written written);
-  all = ap last_lines is ∙ sym (append-nil (view_lines view));
-  none_left = λ e. absurd (true≢false (sym e));
-  none_printed = λ e. refl;
-}
+-- all of them, once what is pending is printed
+all_printed : (p : Printing) (shown : Lines) (now : Shown) (old mid new : Option Bytes) → IsPrinted p shown now old mid → Appends mid new (pending_lines p now) → Appends old new (flat_map shown_lines (kept p.each shown))
+all_printed p shown now old mid new so_far prints =
+    let last : flat_map shown_lines (at_end p.each shown) ≡ pending_lines p now = ap (flat_map shown_lines) so_far.pending ∙ lines_of p.pending in
+    let all : flat_map shown_lines (at_once p.each shown) ++ pending_lines p now ≡ flat_map shown_lines (kept p.each shown) =
+    ap (λ (l : Bytes). flat_map shown_lines (at_once p.each shown) ++ l) (sym last) ∙ sym (flat_map-append shown_lines (at_once p.each shown) (at_end p.each shown)) ∙ ap (flat_map shown_lines) (sym (both p.each shown)) in
+    subst (λ (b : Bytes). Appends old new b) all (Appends-trans old mid new (flat_map shown_lines (at_once p.each shown)) (pending_lines p now) so_far.written prints)
+  where
+    lines_of : (pending : Bool) → flat_map shown_lines (if pending then now ∷ [] else []) ≡ (if pending then shown_lines now else [])
+    lines_of true = append-nil (shown_lines now)
+    lines_of false = refl
 
--- the last one too, if it is kept
-pub printed_all : (each : Bool) (views : List View) (last : Option View) (old now new : Option Bytes) → IsPrinted each views last old now → Appends now new (last_lines last) → Appends old new (flat_map shown_lines (map shown_by views))
-printed_all each views last old now new p written = subst (λ (bytes : Bytes). Appends old new bytes) (p.all ∙ all_lines views) (appends_on old now new p.printed (last_lines last) p.written written)
+-- what is reported
+pub record IsReported (stale : Bool) (places : List (ℕ × ℕ)) (old new : Option Bytes) : Type 0 where
+  pub reported : Appends old new (flat_map stale_text places)
+  pub none : stale ≡ false → places ≡ []
+  pub some : stale ≡ true → places ≡ [] → ⊥
+
+some_more : (places : List (ℕ × ℕ)) (n at : ℕ) → places ++ (n, at) ∷ [] ≡ [] → ⊥
+some_more [] n at e = cc
+some_more (x ∷ places) n at e = cc
 
 -- ---- a session
 
--- so many answers are taken, and what is shown then is printed, or the last of it is kept
-pub record IsSoFar (o : WatchOptions) (known : Option Bytes) (now : WatcherValue) (later : Option Bytes) (count : ℕ) (last : Option View) (old new : Option Bytes) : Type 0 where
-  pub views : List View
-  pub on : IsOn o.limits o.each known views count now later
-  pub printed : IsPrinted o.each views last old new
+-- so many answers are taken, and what is shown then is printed or pending
+pub record IsSoFar (o : WatchOptions) (bytes : Bytes) (count : ℕ) (now : Viewer) (later : Option Bytes) (p : Printing) (old new : Outputs) : Type 0 where
+  pub come : HasCome o.limits bytes count now later
+  pub each : p.each ≡ o.each
+  pub printed : IsPrinted p (shown_each first_shown come.given) (shown_by now) old.out new.out
+  pub reported : IsReported p.stale (stale_each 1 first_shown come.given) old.err new.err
 
-module _ (o : WatchOptions) (known : Option Bytes) where
-  pub so_far_first : (now : WatcherValue) (old : Option Bytes) → now ≡ record { limits = o.limits; viewing = first_viewing; pending = [] } → IsSoFar o known now known 0 None old old
-  so_far_first now old is = record {
-    views = [];
-    on = on_first o.limits o.each [] now known refl is;
-    printed = printed_first o.each old;
-  }
+pub so_far_first : (o : WatchOptions) (now : Viewer) (known : Option Bytes) (outputs : Outputs) → shown_by now ≡ first_shown → now.kept ≡ [] → IfSome known (λ bytes. IsSoFar o bytes 0 now known (record { each = o.each; pending = false; stale = false }) outputs outputs)
+so_far_first o now known outputs shows none = if_known known (λ bytes. IsSoFar o bytes 0 now known (record { each = o.each; pending = false; stale = false }) outputs outputs) (λ bytes is.
+    subst (λ (later : Option Bytes). IsSoFar o bytes 0 now later (record { each = o.each; pending = false; stale = false }) outputs outputs) (sym is) (first bytes))
+  where
+    no_lines : (each : Bool) → (at_once each [] ≡ []) × (at_end each [] ≡ [])
+    no_lines true = (refl, refl)
+    no_lines false = (refl, refl)
 
-  up_to : (views : List View) (fault : Option (ℕ × AnswerFault)) (old new : Option Bytes) → Appends old new (flat_map shown_lines (map shown_by views)) → IfSome known (λ bytes. HasEnded o.limits o.each bytes views fault) → IfSome known (λ bytes. PrintsUpTo o bytes fault old new)
-  up_to views fault old new printed ended = if_some known (λ bytes. HasEnded o.limits o.each bytes views fault) (λ bytes. PrintsUpTo o bytes fault old new)
-      (λ bytes h. record {
-        shown = h.shown;
-        last = h.last;
-        rest = h.rest;
-        watches = h.watches;
-        ends = h.ends;
-        printed = subst (λ (shown : List Shown). Appends old new (flat_map shown_lines shown)) h.views_are printed;
-      }) ended
+    first : (bytes : Bytes) → IsSoFar o bytes 0 now (Some bytes) (record { each = o.each; pending = false; stale = false }) outputs outputs
+    first bytes =
+        let come : HasCome o.limits bytes 0 now (Some bytes) = record { given = []; counted = refl; left = bytes; left_is = (come_first o.limits now bytes shows none).left_is; takes = (refl, shows) } in
+        record {
+          come = come;
+          each = refl;
+          printed = record {
+            written = subst (λ (l : Lines). Appends outputs.out outputs.out (flat_map shown_lines l)) (sym (no_lines o.each).0) (Appends-nil outputs.out);
+            pending = (no_lines o.each).1;
+          };
+          reported = record { reported = Appends-nil outputs.err; none = λ e. refl; some = λ e. absurd (true≢false (sym e)) };
+        }
 
-  module _ (now new : WatcherValue) (later after : Option Bytes) (count : ℕ) (last : Option View) (old written : Option Bytes) (at : IsSoFar o known now later count last old written) where
-    pub so_far_on : (result : Result (Option View) WatchError) (view : View) (next : Option View) (more : Option Bytes) → result ≡ Ok (Some view) → NextShows now later result new after → new.limits ≡ now.limits → Appends written more (if o.each then view_lines view else []) → next ≡ (if o.each then last else Some view)
-        → IsSoFar o known new after (count + 1) next old more
-    so_far_on result view next more is shows same prints kept = record {
-      views = (if o.each then at.views else []) ++ view ∷ [];
-      on = on_taken o.limits o.each known at.views count now new later after at.on result view is shows same;
-      printed = printed_on o.each at.views view last next old written more at.printed prints kept;
+module _ (o : WatchOptions) (bytes : Bytes) (count : ℕ) (now new : Viewer) (later after : Option Bytes) (p q : Printing) (old mid newer : Outputs) (so_far : IsSoFar o bytes count now later p old mid) where
+  abbrev TakesHere : Result (Option Taken) StreamError → Type 0
+  TakesHere result = Takes o.limits bytes count now new later after so_far.come result
+
+  pub so_far_on : (t : Taken) → TakesHere (Ok (Some t)) → PrintsOne (shown_by new) (count + 1) t p mid q newer → IsSoFar o bytes (count + 1) new after q old newer
+  so_far_on outcomes.Shown takes prints =
+      let next = has_next o.limits bytes count now new later after so_far.come outcomes.Shown takes in
+      let was : IsPrinted (record { each = p.each; pending = p.pending; stale = p.stale }) (shown_each first_shown so_far.come.given) (shown_by now) old.out mid.out = so_far.printed in
+      let more = more_printed p.each p.pending (shown_each first_shown so_far.come.given) (shown_by now) (shown_by new) p.stale old.out mid.out newer.out was prints.0 in
+      let same : stale_each 1 first_shown next.come.given ≡ stale_each 1 first_shown so_far.come.given = next.stale ∙ append-nil (stale_each 1 first_shown so_far.come.given) in
+      let q_is = prints.2 in
+      record {
+        come = next.come;
+        each = ap (λ (x : Printing). x.each) q_is ∙ each_of p.each ∙ so_far.each;
+        printed = rw (q_is, next.shown) more;
+        reported = rw (same, prints.1, q_is, stale_of p.each) so_far.reported;
+      }
+    where
+      each_of : (each : Bool) → (if each then p else record p { pending = true }).each ≡ p.each
+      each_of true = refl
+      each_of false = refl
+
+      stale_of : (each : Bool) → (if each then p else record p { pending = true }).stale ≡ p.stale
+      stale_of true = refl
+      stale_of false = refl
+  so_far_on (outcomes.Stale at) takes prints =
+      let next = has_next o.limits bytes count now new later after so_far.come (outcomes.Stale at) takes in
+      let places : List (ℕ × ℕ) = stale_each 1 first_shown so_far.come.given in
+      let same : shown_each first_shown next.come.given ≡ shown_each first_shown so_far.come.given = next.shown ∙ append-nil (shown_each first_shown so_far.come.given) in
+      let is : q ≡ record p { stale = true } = prints.2 in
+      let out : newer.out ≡ mid.out = prints.0 in
+      let stays : shown_by new ≡ shown_by now = next.stays in
+      let text : flat_map stale_text (places ++ (count + 1, at) ∷ []) ≡ flat_map stale_text places ++ stale_line (count + 1) at = flat_map-append stale_text places ((count + 1, at) ∷ []) ∙ ap (λ (l : Bytes). flat_map stale_text places ++ l) (append-nil (stale_line (count + 1) at)) in
+      record {
+        come = next.come;
+        each = ap (λ (x : Printing). x.each) is ∙ so_far.each;
+        printed = rw (is, same, stays, out) (record { written = so_far.printed.written; pending = so_far.printed.pending });
+        reported = rw (is, next.stale) (record {
+          reported = subst (λ (b : Bytes). Appends old.err newer.err b) (sym text) (Appends-trans old.err mid.err newer.err (flat_map stale_text places) (stale_line (count + 1) at) so_far.reported.reported prints.1);
+          none = λ e. absurd (true≢false e);
+          some = λ e. some_more places (count + 1) at;
+        });
+      }
+
+  module _ (out : Option Bytes) where
+    abbrev now_written : Outputs
+    now_written = record { out = out; err = mid.err }
+
+    up_to : (fault : Option (ℕ × ClientError)) → TakesUpTo o.limits bytes so_far.come.given fault → shown_by new ≡ shown_by now → Appends mid.out out (pending_lines p (shown_by new)) → PrintsUpTo o bytes fault (stale_each 1 first_shown so_far.come.given) old now_written
+    up_to fault takes same prints = record {
+      given = so_far.come.given;
+      takes = takes;
+      stale_are = refl;
+      printed = subst (λ (e : Bool). Appends old.out out (flat_map shown_lines (kept e (shown_each first_shown so_far.come.given)))) so_far.each
+          (all_printed p (shown_each first_shown so_far.come.given) (shown_by now) old.out mid.out out so_far.printed (subst (λ (s : Shown). Appends mid.out out (pending_lines p s)) same prints));
+      reported = so_far.reported.reported;
     }
 
-    pub prints_all : (result : Result (Option View) WatchError) (more : Option Bytes) → result ≡ Ok None → NextShows now later result new after → Appends written more (last_lines last) → IfSome known (λ bytes. PrintsUpTo o bytes None old more)
-    prints_all result more is shows prints = up_to at.views None old more (printed_all o.each at.views last old written more at.printed prints)
-        (on_ended o.limits o.each known at.views count now new later after at.on result is shows)
+    -- all are taken
+    pub prints_whole : (result : Result (Unit {0}) WatchEnd) → TakesHere (Ok None) → Finishes p (shown_by new) (whole p) mid.out result out → Prints o bytes result old now_written
+    prints_whole (Ok u) takes ends =
+        let all = all_come o.limits bytes count now new later after so_far.come takes in
+        let none = so_far.reported.none (is_whole p.stale ends.0) in
+        subst (λ (places : List (ℕ × ℕ)). PrintsUpTo o bytes None places old now_written) none (up_to None all.0 all.1 ends.1)
+      where
+        is_whole : (stale : Bool) → ◌≡◌ {A = Result (Unit {0}) WatchEnd} (Ok u) (if stale then Err Stale else Ok tt) → stale ≡ false
+        is_whole true e = absurd (let no_way : ⊥ = cc in no_way)
+        is_whole false e = refl
+    prints_whole (Err Stale) takes ends =
+        let all = all_come o.limits bytes count now new later after so_far.come takes in
+        (stale_each 1 first_shown so_far.come.given, so_far.reported.some (is_stale p.stale ends.0), up_to None all.0 all.1 ends.1)
+      where
+        is_stale : (stale : Bool) → ◌≡◌ {A = Result (Unit {0}) WatchEnd} (Err Stale) (if stale then Err Stale else Ok tt) → stale ≡ true
+        is_stale true e = refl
+        is_stale false e = absurd (let no_way : ⊥ = cc in no_way)
+    prints_whole (Err (Fault n why)) takes ends = absurd (no_fault p.stale ends.0)
+      where
+        no_fault : (stale : Bool) → ◌≡◌ {A = Result (Unit {0}) WatchEnd} (Err (Fault n why)) (if stale then Err Stale else Ok tt) → ⊥
+        no_fault true e = cc
+        no_fault false e = cc
+    prints_whole (Err (Session e)) takes ends = tt
 
-    pub prints_fault : (result : Result (Option View) WatchError) (error : WatchError) (end : WatchEnd) (more : Option Bytes) → result ≡ Err error → end ≡ end_by (count + 1) error → NextShows now later result new after → Appends written more (last_lines last) → IfSome known (λ bytes. Prints o bytes (Err end) old more)
-    prints_fault result (Fault why) end more is ends shows prints = subst (λ (e : WatchEnd). IfSome known (λ bytes. Prints o bytes (Err e) old more)) (sym ends)
-        (up_to at.views (Some (count + 1, why)) old more (printed_all o.each at.views last old written more at.printed prints)
-        (on_fault o.limits o.each known at.views count now new later after at.on result why is shows))
-    prints_fault result Unreadable end more is ends shows prints = subst (λ (e : WatchEnd). IfSome known (λ bytes. Prints o bytes (Err e) old more)) (sym ends) (if_known known (λ bytes. Unit {0}) (λ bytes is. tt))
-    prints_fault result Memory end more is ends shows prints = subst (λ (e : WatchEnd). IfSome known (λ bytes. Prints o bytes (Err e) old more)) (sym ends) (if_known known (λ bytes. Unit {0}) (λ bytes is. tt))
+    -- one isn't
+    pub prints_end : (error : StreamError) (result : Result (Unit {0}) WatchEnd) → TakesHere (Err error) → Finishes p (shown_by new) (Err (end_by (count + 1) error)) mid.out result out → Prints o bytes result old now_written
+    prints_end (stream.Answer e) (Ok u) takes ends = absurd (let bad = ends.0 in let no_way : ⊥ = cc in no_way)
+    prints_end (stream.Answer e) (Err Stale) takes ends = absurd (let bad = ends.0 in let no_way : ⊥ = cc in no_way)
+    prints_end (stream.Answer e) (Err (Fault n why)) takes ends =
+        let stopped = fault_come o.limits bytes count now new later after so_far.come e takes in
+        let bad = ends.0 in
+        let number : count + 1 ≡ n = cc in
+        let error : e ≡ why = cc in
+        (stale_each 1 first_shown so_far.come.given, rw (← number, ← error) (up_to (Some (count + 1, e)) stopped.0 stopped.1 ends.1))
+    prints_end (stream.Answer e) (Err (Session s)) takes ends = tt
+    prints_end (stream.Session e) (Ok u) takes ends = absurd (let bad = ends.0 in let no_way : ⊥ = cc in no_way)
+    prints_end (stream.Session e) (Err Stale) takes ends = absurd (let bad = ends.0 in let no_way : ⊥ = cc in no_way)
+    prints_end (stream.Session e) (Err (Fault n why)) takes ends = absurd (let bad = ends.0 in let no_way : ⊥ = cc in no_way)
+    prints_end (stream.Session e) (Err (Session s)) takes ends = tt
 
-  -- what failed is not the stream
-  pub prints_refused : (error : SessionError) (result : Result (Unit {0}) WatchEnd) (old more : Option Bytes) → result ≡ Err (Session error) → IfSome known (λ bytes. Prints o bytes result old more)
-  prints_refused error result old more is =
-      let P : Result (Unit {0}) WatchEnd → Type 0 = λ r. IfSome known (λ bytes. Prints o bytes r old more) in
-      subst P (sym is) (if_known known (λ bytes. Unit {0}) (λ bytes k. tt))
+module _ (o : WatchOptions) (known : Option Bytes) (count : ℕ) (now new : Viewer) (later after : Option Bytes) (p : Printing) (old mid : Outputs) (limits : now.limits ≡ o.limits) (so_far : IfSome known (λ bytes. IsSoFar o bytes count now later p old mid)) where
+  within : (result : Result (Option Taken) StreamError) → Says now later result new after → IfSome (coming now later) (λ all. TakesComing o.limits (shown_by now) all result (shown_by new) (coming new after))
+  within result says = subst (λ (l : Limits). IfSome (coming now later) (λ all. TakesComing l (shown_by now) all result (shown_by new) (coming new after))) limits says
+
+  pub next_printed : (q : Printing) (newer : Outputs) (t : Taken) → Says now later (Ok (Some t)) new after → PrintsOne (shown_by new) (count + 1) t p mid q newer → IfSome known (λ bytes. IsSoFar o bytes (count + 1) new after q old newer)
+  next_printed q newer t says prints = if_some known (λ bytes. IsSoFar o bytes count now later p old mid) (λ bytes. IsSoFar o bytes (count + 1) new after q old newer)
+      (λ bytes here. so_far_on o bytes count now new later after p q old mid newer here t (within (Ok (Some t)) says) prints) so_far
+
+  pub whole_printed : (out : Option Bytes) (result : Result (Unit {0}) WatchEnd) → Says now later (Ok None) new after → Finishes p (shown_by new) (whole p) mid.out result out → IfSome known (λ bytes. Prints o bytes result old (record { out = out; err = mid.err }))
+  whole_printed out result says ends = if_some known (λ bytes. IsSoFar o bytes count now later p old mid) (λ bytes. Prints o bytes result old (record { out = out; err = mid.err }))
+      (λ bytes here. prints_whole o bytes count now new later after p p old mid mid here out result (within (Ok None) says) ends) so_far
+
+  pub end_printed : (out : Option Bytes) (error : StreamError) (result : Result (Unit {0}) WatchEnd) → Says now later (Err error) new after → Finishes p (shown_by new) (Err (end_by (count + 1) error)) mid.out result out → IfSome known (λ bytes. Prints o bytes result old (record { out = out; err = mid.err }))
+  end_printed out error result says ends = if_some known (λ bytes. IsSoFar o bytes count now later p old mid) (λ bytes. Prints o bytes result old (record { out = out; err = mid.err }))
+      (λ bytes here. prints_end o bytes count now new later after p p old mid mid here out error result (within (Err error) says) ends) so_far
+
+-- what failed is not the stream
+pub prints_refused : (o : WatchOptions) (known : Option Bytes) (error : SessionError) (result : Result (Unit {0}) WatchEnd) (old more : Outputs) → result ≡ Err (Session error) → IfSome known (λ bytes. Prints o bytes result old more)
+prints_refused o known error result old more is =
+    let P : Result (Unit {0}) WatchEnd → Type 0 = λ r. IfSome known (λ bytes. Prints o bytes r old more) in
+    subst P (sym is) (if_known known (λ bytes. Unit {0}) (λ bytes k. tt))

@@ -1,20 +1,33 @@
--- What a viewer shows of a stream.
-use Rattle.std.proofs.Common.{◌≡◌, ℕ, ◌+◌, ◌-◌, ◌∙◌, Bool, true, false, List, [], ◌∷◌, ◌++◌, length, map, drop, refl, sym, ap, subst, append-nil, append_assoc, arith, inl, inr}
+-- What is taken of a stream, and what is shown of it.
+use Rattle.std.proofs.Common.{◌≡◌, ℕ, ◌+◌, ◌-◌, ◌∙◌, Bool, true, false, List, [], ◌∷◌, ◌++◌, inl, inr, length, map, drop, refl, sym, ap, subst, append-nil, append_assoc, arith}
 use Rattle.std.specs.List.{All}
+use Rattle.std.specs.Io.KnownBytes.{prepend_known}
 use Rattle.std.specs.Prelude.{Option, None, Some, IfSome, Result, Ok, Err, if◌then◌else◌}
+use Rattle.std.proofs.lemmas.Bool.{cases_Bool}
 use Rattle.std.proofs.lemmas.List.{length-append, map-append}
 use Rattle.std.proofs.lemmas.List.Elements.{All-nil, All-push}
 use Rattle.std.proofs.Math.Seq.{drop-append_seam}
+use Rattle.termwiz_cell.specs.Width.{unicode_columns}
+use Rattle.termwiz_share.specs.Client.{Shown, fits, shown_by, stale_place, taken}
+use Rattle.termwiz_share.specs.Feeding.{TakesAll}
+use Rattle.termwiz_share.specs.declared.error.ClientError.{ClientError}
+use Rattle.termwiz_share.specs.declared.taken.Taken.{Taken}
+use Rattle.termwiz_share.specs.declared.taken.Taken.TheVariants as outcomes
+use Rattle.termwiz_share.proofs.Fed.{TakesAll-push}
+use Rattle.termwiz_share.proofs.Taking.{none_taken}
 use Rattle.termwiz_surface.specs.Schedule.{HasUnmarkedRows}
 use Rattle.termwiz_wire.specs.declared.fault.Limits.{Limits}
-use Rattle.sessions.specs.Taking.{IsShown, ShowsComing, WatcherValue, coming}
-use Rattle.sessions.specs.Viewing.{Viewing, first_viewing}
-use Rattle.sessions.specs.Watching.{Shown, shown_by, shown_of, kept, TakesNext, Watches, Ended, Taken, TakesNone, Ends, IsWatched}
-use Rattle.sessions.specs.declared.watch.viewer.AnswerFault.{AnswerFault}
-use Rattle.sessions.specs.declared.watch.viewer.View.{View}
-use Rattle.sessions.specs.declared.watch.viewer.WatchError.{WatchError}
-use Rattle.sessions.specs.declared.watch.viewer.WatchError.TheVariants.{Fault}
+use Rattle.termwiz_wire.specs.declared.sent.SentAnswer.{SentAnswer}
+use Rattle.sessions.specs.Frames.{first_shown}
+use Rattle.sessions.specs.Taking.{TakesComing, TakesOne, coming, outcome_of}
+use Rattle.sessions.specs.Watching.{Ends, IsWatched, KeepsAnswer, KeepsOne, TakesUpTo, kept, shown_each, shown_one, stale_each, stale_one, viewed}
+use Rattle.sessions.specs.declared.watch.runs.View.{View}
 use Rattle.sessions.specs.declared.watch.runs.Watched.{Watched}
+use Rattle.sessions.specs.declared.watch.stream.StreamError.{StreamError}
+use Rattle.sessions.specs.declared.watch.stream.StreamError.TheVariants.{Answer, Session}
+use Rattle.sessions.proofs.Coming.{Bytes, Viewer, if_known, if_some}
+
+-- ---- lists of what is shown and of what is stale
 
 -- the last one alone
 last_alone : (xs : List Shown) (x : Shown) → drop (length (xs ++ x ∷ []) - 1) (xs ++ x ∷ []) ≡ x ∷ []
@@ -22,145 +35,227 @@ last_alone xs x =
     let at : length (xs ++ x ∷ []) - 1 ≡ length xs = omega (arith, length-append xs (x ∷ [])) in
     rw at (drop-append_seam xs (x ∷ []))
 
-kept_none : (each : Bool) → [] ≡ kept each []
+pub kept_last : (xs : List Shown) (x : Shown) → kept false (xs ++ x ∷ []) ≡ x ∷ []
+kept_last xs x = last_alone xs x
+
+pub kept_none : (each : Bool) → [] ≡ kept each []
 kept_none true = refl
 kept_none false = refl
 
 -- a view more is kept
-pub kept-push : (each : Bool) (views : List View) (shown : List Shown) (view : View) (x : Shown) → map shown_by views ≡ kept each shown → shown_by view ≡ x → map shown_by ((if each then views else []) ++ view ∷ []) ≡ kept each (shown ++ x ∷ [])
-kept-push true views shown view x e is = map-append shown_by views (view ∷ []) ∙ (λ i. e i ++ is i ∷ [])
-kept-push false views shown view x e is = (λ i. is i ∷ []) ∙ sym (last_alone shown x)
+pub kept-push : (each : Bool) (old new : List View) (shown : List Shown) (x : Shown) → map viewed old ≡ kept each shown → KeepsOne each old x new → map viewed new ≡ kept each (shown ++ x ∷ [])
+kept-push true old new shown x e k = ap (map viewed) k.kept ∙ map-append viewed old (k.view ∷ []) ∙ (λ i. e i ++ k.shows i ∷ [])
+kept-push false old new shown x e k = ap (map viewed) k.kept ∙ (λ i. k.shows i ∷ []) ∙ sym (last_alone shown x)
 
-abbrev IsUnmarked : View → Type 0
-IsUnmarked view = HasUnmarkedRows view.screen
+abbrev pub IsUnmarked : View → Type 0
+IsUnmarked view = HasUnmarkedRows view.screen.screen
 
-unmarked-push : (each : Bool) (views : List View) (view : View) → All IsUnmarked views → IsUnmarked view → All IsUnmarked ((if each then views else []) ++ view ∷ [])
-unmarked-push true views view all one = All-push IsUnmarked views view all one
-unmarked-push false views view all one = All-push IsUnmarked [] view (All-nil IsUnmarked) one
+pub unmarked-push : (each : Bool) (old new : List View) (x : Shown) → All IsUnmarked old → KeepsOne each old x new → All IsUnmarked new
+unmarked-push true old new x all k = subst (λ (views : List View). All IsUnmarked views) (sym k.kept) (All-push IsUnmarked old k.view all k.unmarked)
+unmarked-push false old new x all k = subst (λ (views : List View). All IsUnmarked views) (sym k.kept) (All-push IsUnmarked [] k.view (All-nil IsUnmarked) k.unmarked)
 
-module _ (limits : Limits) (each : Bool) (bytes : List ℕ) where
-  -- some answers are taken, whose views are kept, and these bytes are left
-  pub record HasWatched (views : List View) (v : Viewing) (left : List ℕ) (count : ℕ) : Type 0 where
-    pub shown : List Viewing
-    pub counted : count ≡ length shown
-    pub watches : (more : List Viewing) (u : Viewing) (rest : List ℕ) → Watches limits v left more u rest → Watches limits first_viewing bytes (shown ++ more) u rest
-    pub views_are : map shown_by views ≡ kept each (map shown_of shown)
-    pub unmarked : All IsUnmarked views
+-- what an outcome shows, and what is stale by it
+abbrev pub shown_by_one : Taken → Shown → List Shown
+shown_by_one outcomes.Shown s = s ∷ []
+shown_by_one (outcomes.Stale at) s = []
 
-  -- no answer is taken yet
-  pub first_watched : (views : List View) → views ≡ [] → HasWatched views first_viewing bytes 0
-  first_watched views none = record {
-    shown = [];
-    counted = refl;
-    watches = λ more u rest w. w;
-    views_are = rw none (kept_none each);
-    unmarked = rw none (All-nil IsUnmarked);
-  }
+abbrev pub stale_by_one : Taken → ℕ → List (ℕ × ℕ)
+stale_by_one outcomes.Shown n = []
+stale_by_one (outcomes.Stale at) n = (n, at) ∷ []
 
-  -- the next one is
-  pub next_watched : (views : List View) (v u : Viewing) (left next : List ℕ) (count : ℕ) (view : View) → HasWatched views v left count → TakesNext limits v left u next → IsShown u view → HasWatched ((if each then views else []) ++ view ∷ []) u next (count + 1)
-  next_watched views v u left next count view w takes is = record {
-    shown = w.shown ++ u ∷ [];
-    counted = omega (arith, w.counted, length-append w.shown (u ∷ []));
-    watches = λ more x rest ws. rw (append_assoc w.shown (u ∷ []) more) (w.watches (u ∷ more) x rest (Taken v u x left next rest more takes ws));
-    views_are = kept-push each views (map shown_of w.shown) view (shown_of u) w.views_are is.shown ∙ ap (kept each) (sym (map-append shown_of w.shown (u ∷ [])));
-    unmarked = unmarked-push each views view w.unmarked is.unmarked;
-  }
+abbrev made_by : Shown → SentAnswer → Bool → Taken
+made_by s a b = if b then outcomes.Shown else outcomes.Stale (stale_place s a)
 
-  -- no more is, for this reason
-  pub record HasEnded (views : List View) (fault : Option (ℕ × AnswerFault)) : Type 0 where
-    pub shown : List Viewing
-    pub last : Viewing
-    pub rest : List ℕ
-    pub watches : Watches limits first_viewing bytes shown last rest
-    pub ends : Ends limits last rest (length shown) fault
-    pub views_are : map shown_by views ≡ kept each (map shown_of shown)
-    pub unmarked : All IsUnmarked views
+shows_one : (s u : Shown) (a : SentAnswer) (t : Taken) → t ≡ outcome_of s a → u ≡ taken unicode_columns s a → shown_one s a ≡ shown_by_one t u
+shows_one s u a t is shows = elim (cases_Bool (fits s a)) [
+  | inl fit ↦ lines fit ∙ ap (λ (v : Shown). v ∷ []) (sym shows) ∙ ap (λ (x : Taken). shown_by_one x u) (sym (is ∙ ap (made_by s a) fit))
+  | inr unfit ↦ lines unfit ∙ ap (λ (x : Taken). shown_by_one x u) (sym (is ∙ ap (made_by s a) unfit))
+]
+  where
+    lines : {b : Bool} → fits s a ≡ b → shown_one s a ≡ (if b then taken unicode_columns s a ∷ [] else [])
+    lines e = ap (λ (b : Bool). if b then taken unicode_columns s a ∷ [] else []) e
 
-  pub ended : (views : List View) (fault : Option (ℕ × AnswerFault)) (v : Viewing) (left : List ℕ) (count : ℕ) → HasWatched views v left count → Ends limits v left count fault → HasEnded views fault
-  ended views fault v left count h ends = record {
-    shown = h.shown;
-    last = v;
-    rest = left;
-    watches = subst (λ (shown : List Viewing). Watches limits first_viewing bytes shown v left) (append-nil h.shown) (h.watches [] v left (Ended v left));
-    ends = subst (λ (n : ℕ). Ends limits v left n fault) h.counted ends;
-    views_are = h.views_are;
-    unmarked = h.unmarked;
-  }
+-- what is stale changes nothing
+abbrev pub StaysBy : Taken → Shown → Shown → Type 0
+StaysBy outcomes.Shown s u = Unit {0}
+StaysBy (outcomes.Stale at) s u = u ≡ s
 
-  pub watched : (w : Watched) → HasEnded w.views.items w.fault → IsWatched limits bytes each w
-  watched w h = record {
-    shown = h.shown;
-    last = h.last;
-    rest = h.rest;
-    watches = h.watches;
-    ends = h.ends;
-    views = h.views_are;
-    unmarked = h.unmarked;
-  }
+stays_one : (s u : Shown) (a : SentAnswer) (t : Taken) → t ≡ outcome_of s a → u ≡ taken unicode_columns s a → StaysBy t s u
+stays_one s u a outcomes.Shown is shows = tt
+stays_one s u a (outcomes.Stale at) is shows = elim (cases_Bool (fits s a)) [
+  | inl fit ↦ absurd (let bad : outcomes.Stale at ≡ outcomes.Shown = is ∙ ap (made_by s a) fit in let no_way : ⊥ = cc in no_way)
+  | inr unfit ↦ shows ∙ none_taken unicode_columns s a unfit
+]
 
--- ---- a watcher
+stales_one : (n : ℕ) (s : Shown) (a : SentAnswer) (t : Taken) → t ≡ outcome_of s a → stale_one n s a ≡ stale_by_one t n
+stales_one n s a t is = elim (cases_Bool (fits s a)) [
+  | inl fit ↦ places fit ∙ ap (λ (x : Taken). stale_by_one x n) (sym (is ∙ ap (made_by s a) fit))
+  | inr unfit ↦ places unfit ∙ ap (λ (x : Taken). stale_by_one x n) (sym (is ∙ ap (made_by s a) unfit))
+]
+  where
+    places : {b : Bool} → fits s a ≡ b → stale_one n s a ≡ (if b then [] else (n, stale_place s a) ∷ [])
+    places e = ap (λ (b : Bool). if b then [] else (n, stale_place s a) ∷ []) e
 
-abbrev Bytes : Type 0
-Bytes = List ℕ
+module _ (limits : Limits) where
+  shown_push : (s t : Shown) (bytes rest : Bytes) (given : List SentAnswer) (a : SentAnswer) → TakesAll unicode_columns limits s bytes given t rest → shown_each s (given ++ a ∷ []) ≡ shown_each s given ++ shown_one t a
+  shown_push s t bytes rest [] a d = append-nil (shown_one s a) ∙ ap (λ (v : Shown). shown_one v a) (sym d.1)
+  shown_push s t bytes rest (b ∷ more) a d =
+      ap (λ (l : List Shown). shown_one s b ++ l) (shown_push (taken unicode_columns s b) t d.0 rest more a d.3)
+      ∙ sym (append_assoc (shown_one s b) (shown_each (taken unicode_columns s b) more) (shown_one t a))
 
--- these views are kept of so many answers, and these bytes are still to come
-pub record IsLeft (limits : Limits) (each : Bool) (bytes : Bytes) (views : List View) (count : ℕ) (v : Viewing) (coming : Option Bytes) : Type 0 where
+  stale_push : (n : ℕ) (s t : Shown) (bytes rest : Bytes) (given : List SentAnswer) (a : SentAnswer) → TakesAll unicode_columns limits s bytes given t rest → stale_each n s (given ++ a ∷ []) ≡ stale_each n s given ++ stale_one (n + length given) t a
+  stale_push n s t bytes rest [] a d =
+      let at : n + length {A = SentAnswer} [] ≡ n = omega arith in
+      append-nil (stale_one n s a) ∙ ap (λ (v : Shown). stale_one n v a) (sym d.1) ∙ ap (λ (k : ℕ). stale_one k t a) (sym at)
+  stale_push n s t bytes rest (b ∷ more) a d =
+      let at : (n + 1) + length more ≡ n + length (b ∷ more) = omega arith in
+      ap (λ (l : List (ℕ × ℕ)). stale_one n s b ++ l) (stale_push (n + 1) (taken unicode_columns s b) t d.0 rest more a d.3)
+      ∙ sym (append_assoc (stale_one n s b) (stale_each (n + 1) (taken unicode_columns s b) more) (stale_one ((n + 1) + length more) t a))
+      ∙ ap (λ (k : ℕ). (stale_one n s b ++ stale_each (n + 1) (taken unicode_columns s b) more) ++ stale_one k t a) at
+
+-- ---- what is taken so far
+
+-- of these bytes so many answers are taken, and the others are still to come
+pub record HasCome (limits : Limits) (bytes : Bytes) (count : ℕ) (now : Viewer) (later : Option Bytes) : Type 0 where
+  pub given : List SentAnswer
+  pub counted : count ≡ length given
   pub left : Bytes
-  pub known : coming ≡ Some left
-  pub has : HasWatched limits each bytes views v left count
+  pub left_is : coming now later ≡ Some left
+  pub takes : TakesAll unicode_columns limits first_shown bytes given (shown_by now) left
 
-pub record IsOn (limits : Limits) (each : Bool) (known : Option Bytes) (views : List View) (count : ℕ) (now : WatcherValue) (later : Option Bytes) : Type 0 where
-  pub limits_are : now.limits ≡ limits
-  pub left : IfSome known (λ bytes. IsLeft limits each bytes views count now.viewing (coming now later))
+-- none is yet
+abbrev pub come_first : (limits : Limits) (now : Viewer) (bytes : Bytes) → shown_by now ≡ first_shown → now.kept ≡ [] → HasCome limits bytes 0 now (Some bytes)
+come_first limits now bytes shows none = record {
+  given = [];
+  counted = refl;
+  left = bytes;
+  left_is = ap (λ (k : Bytes). prepend_known k (Some bytes)) none;
+  takes = (refl, shows);
+}
 
--- what a call of `next` says
-abbrev pub NextShows : WatcherValue → Option Bytes → Result (Option View) WatchError → WatcherValue → Option Bytes → Type 0
-NextShows now later result new after = IfSome (coming now later) (λ bytes. ShowsComing now.limits now.viewing bytes result new.viewing (coming new after))
+at_some : (known : Option Bytes) (bytes : Bytes) (P : Bytes → Type 0) → known ≡ Some bytes → IfSome known P → P bytes
+at_some None bytes P is p = cc
+at_some (Some x) bytes P is p = let same : x ≡ bytes = cc in subst P same p
 
--- where something is known
-pub if_some : (known : Option Bytes) (P Q : Bytes → Type 0) → ((bytes : Bytes) → P bytes → Q bytes) → IfSome known P → IfSome known Q
-if_some None P Q law h = tt
-if_some (Some bytes) P Q law h = law bytes h
+module _ (limits : Limits) (bytes : Bytes) (count : ℕ) (now new : Viewer) (later after : Option Bytes) (before : HasCome limits bytes count now later) where
+  abbrev pub Takes : Result (Option Taken) StreamError → Type 0
+  Takes result = IfSome (coming now later) (λ all. TakesComing limits (shown_by now) all result (shown_by new) (coming new after))
 
-module _ (limits : Limits) (each : Bool) where
-  pub on_first : (views : List View) (now : WatcherValue) (known : Option Bytes) → views ≡ [] → now ≡ record { limits = limits; viewing = first_viewing; pending = [] } → IsOn limits each known views 0 now known
-  on_first views now None none is = record { limits_are = ap (λ (w : WatcherValue). w.limits) is; left = tt }
-  on_first views now (Some bytes) none is =
-      let P : WatcherValue → Type 0 = λ w. IsLeft limits each bytes views 0 w.viewing (coming w (Some bytes)) in
+  of_left : (result : Result (Option Taken) StreamError) → Takes result → TakesComing limits (shown_by now) before.left result (shown_by new) (coming new after)
+  of_left result takes = at_some (coming now later) before.left (λ all. TakesComing limits (shown_by now) all result (shown_by new) (coming new after)) before.left_is takes
+
+  -- the next one is taken
+  pub record HasNext (t : Taken) : Type 0 where
+    pub come : HasCome limits bytes (count + 1) new after
+    pub shown : shown_each first_shown come.given ≡ shown_each first_shown before.given ++ shown_by_one t (shown_by new)
+    pub stale : stale_each 1 first_shown come.given ≡ stale_each 1 first_shown before.given ++ stale_by_one t (count + 1)
+    pub stays : StaysBy t (shown_by now) (shown_by new)
+
+  next_is : (t : Taken) (left : Bytes) → coming new after ≡ Some left → TakesOne limits (shown_by now) before.left t (shown_by new) left → HasNext t
+  next_is t left left_is one = record {
+    come = record {
+      given = before.given ++ one.sent ∷ [];
+      counted = omega (arith, before.counted, length-append before.given (one.sent ∷ []));
+      left = left;
+      left_is = left_is;
+      takes = subst (λ (v : Shown). TakesAll unicode_columns limits first_shown bytes (before.given ++ one.sent ∷ []) v left) (sym one.shows)
+          (TakesAll-push unicode_columns limits first_shown bytes before.given (shown_by now) before.left one.sent left before.takes one.decoded one.size);
+    };
+    shown = shown_push limits first_shown (shown_by now) bytes before.left before.given one.sent before.takes
+        ∙ ap (λ (l : List Shown). shown_each first_shown before.given ++ l) (shows_one (shown_by now) (shown_by new) one.sent t one.outcome one.shows);
+    stale =
+        let at : 1 + length before.given ≡ count + 1 = omega (arith, before.counted) in
+        stale_push limits 1 first_shown (shown_by now) bytes before.left before.given one.sent before.takes
+        ∙ ap (λ (l : List (ℕ × ℕ)). stale_each 1 first_shown before.given ++ l) (ap (λ (k : ℕ). stale_one k (shown_by now) one.sent) at ∙ stales_one (count + 1) (shown_by now) one.sent t one.outcome);
+    stays = stays_one (shown_by now) (shown_by new) one.sent t one.outcome one.shows;
+  }
+
+  pub has_next : (t : Taken) → Takes (Ok (Some t)) → HasNext t
+  has_next t takes = let one = of_left (Ok (Some t)) takes in next_is t one.0 one.1 one.2
+
+  -- none is left
+  pub all_come : Takes (Ok None) → TakesUpTo limits bytes before.given None × (shown_by new ≡ shown_by now)
+  all_come takes =
+      let end = of_left (Ok None) takes in
+      (record { last = shown_by now; rest = before.left; takes = before.takes; ends = end.0 }, end.1)
+
+  -- the next one isn't taken
+  pub fault_come : (error : ClientError) → Takes (Err (Answer error)) → TakesUpTo limits bytes before.given (Some (count + 1, error)) × (shown_by new ≡ shown_by now)
+  fault_come error takes =
+      let end = of_left (Err (Answer error)) takes in
+      (record { last = shown_by now; rest = before.left; takes = before.takes; ends = (end.0, ap (λ (k : ℕ). k + 1) before.counted, end.1) }, end.2)
+
+-- ---- what is kept of it
+
+pub record IsKept (limits : Limits) (each : Bool) (bytes : Bytes) (count : ℕ) (now : Viewer) (later : Option Bytes) (views : List View) (stale : List (ℕ × ℕ)) : Type 0 where
+  pub come : HasCome limits bytes count now later
+  pub views_are : map viewed views ≡ kept each (shown_each first_shown come.given)
+  pub unmarked : All IsUnmarked views
+  pub stale_are : stale ≡ stale_each 1 first_shown come.given
+
+pub kept_first : (limits : Limits) (each : Bool) (now : Viewer) (known : Option Bytes) (views : List View) (stale : List (ℕ × ℕ)) → shown_by now ≡ first_shown → now.kept ≡ [] → views ≡ [] → stale ≡ [] → IfSome known (λ bytes. IsKept limits each bytes 0 now known views stale)
+kept_first limits each now known views stale shows none no_views no_stale = if_known known (λ bytes. IsKept limits each bytes 0 now known views stale) (λ bytes is.
+    subst (λ (later : Option Bytes). IsKept limits each bytes 0 now later views stale) (sym is) (record {
+      come = come_first limits now bytes shows none;
+      views_are = rw no_views (kept_none each);
+      unmarked = rw no_views (All-nil IsUnmarked);
+      stale_are = no_stale;
+    }))
+
+module _ (limits : Limits) (each : Bool) (bytes : Bytes) (count : ℕ) (now new : Viewer) (later after : Option Bytes) (views : List View) (stale : List (ℕ × ℕ)) (so_far : IsKept limits each bytes count now later views stale) where
+  abbrev TakesHere : Result (Option Taken) StreamError → Type 0
+  TakesHere result = Takes limits bytes count now new later after so_far.come result
+
+  pub kept_shown : (more : List View) → TakesHere (Ok (Some outcomes.Shown)) → KeepsOne each views (shown_by new) more → IsKept limits each bytes (count + 1) new after more stale
+  kept_shown more takes keeps =
+      let next = has_next limits bytes count now new later after so_far.come outcomes.Shown takes in
       record {
-        limits_are = ap (λ (w : WatcherValue). w.limits) is;
-        left = subst P (sym is) (record { left = bytes; known = refl; has = first_watched limits each bytes views none });
+        come = next.come;
+        views_are = kept-push each views more (shown_each first_shown so_far.come.given) (shown_by new) so_far.views_are keeps ∙ ap (kept each) (sym next.shown);
+        unmarked = unmarked-push each views more (shown_by new) so_far.unmarked keeps;
+        stale_are = so_far.stale_are ∙ sym (append-nil (stale_each 1 first_shown so_far.come.given)) ∙ sym next.stale;
       }
 
-  module _ (known : Option Bytes) (views : List View) (count : ℕ) (now new : WatcherValue) (later after : Option Bytes) (on : IsOn limits each known views count now later) where
-    -- what the call shows of the bytes that are left
-    shows_left : (bytes : Bytes) (result : Result (Option View) WatchError) (l : IsLeft limits each bytes views count now.viewing (coming now later)) → NextShows now later result new after → ShowsComing limits now.viewing l.left result new.viewing (coming new after)
-    shows_left bytes result l shows =
-        let P : Option Bytes → Type 0 = λ o. IfSome o (λ left. ShowsComing now.limits now.viewing left result new.viewing (coming new after)) in
-        subst (λ (m : Limits). ShowsComing m now.viewing l.left result new.viewing (coming new after)) on.limits_are (subst P l.known shows)
+  pub kept_stale : (at : ℕ) (more : List (ℕ × ℕ)) → TakesHere (Ok (Some (outcomes.Stale at))) → more ≡ stale ++ (count + 1, at) ∷ [] → IsKept limits each bytes (count + 1) new after views more
+  kept_stale at more takes is =
+      let next = has_next limits bytes count now new later after so_far.come (outcomes.Stale at) takes in
+      record {
+        come = next.come;
+        views_are = so_far.views_are ∙ ap (kept each) (sym (append-nil (shown_each first_shown so_far.come.given)) ∙ sym next.shown);
+        unmarked = so_far.unmarked;
+        stale_are = is ∙ ap (λ (l : List (ℕ × ℕ)). l ++ (count + 1, at) ∷ []) so_far.stale_are ∙ sym next.stale;
+      }
 
-    -- an answer more is taken
-    pub on_taken : (result : Result (Option View) WatchError) (view : View) → result ≡ Ok (Some view) → NextShows now later result new after → new.limits ≡ now.limits → IsOn limits each known ((if each then views else []) ++ view ∷ []) (count + 1) new after
-    on_taken result view is shows same = record {
-      limits_are = same ∙ on.limits_are;
-      left = if_some known (λ bytes. IsLeft limits each bytes views count now.viewing (coming now later))
-          (λ bytes. IsLeft limits each bytes ((if each then views else []) ++ view ∷ []) (count + 1) new.viewing (coming new after))
-          (λ bytes l.
-          let s = shows_left bytes (Ok (Some view)) l (subst (λ (r : Result (Option View) WatchError). NextShows now later r new after) is shows) in
-          record { left = s.0; known = s.1; has = next_watched limits each bytes views now.viewing new.viewing l.left s.0 count view l.has s.2 s.3 }) on.left;
-    }
+-- what a call says of the bytes that come, within the limits of the client
+abbrev pub Says : Viewer → Option Bytes → Result (Option Taken) StreamError → Viewer → Option Bytes → Type 0
+Says now later result new after = IfSome (coming now later) (λ all. TakesComing now.limits (shown_by now) all result (shown_by new) (coming new after))
 
-    -- the stream ends
-    pub on_ended : (result : Result (Option View) WatchError) → result ≡ Ok None → NextShows now later result new after → IfSome known (λ bytes. HasEnded limits each bytes views None)
-    on_ended result is shows = if_some known (λ bytes. IsLeft limits each bytes views count now.viewing (coming now later)) (λ bytes. HasEnded limits each bytes views None)
-        (λ bytes l.
-        let s = shows_left bytes (Ok None) l (subst (λ (r : Result (Option View) WatchError). NextShows now later r new after) is shows) in
-        ended limits each bytes views None now.viewing l.left count l.has s) on.left
+module _ (limits : Limits) (each : Bool) (known : Option Bytes) (count : ℕ) (now new : Viewer) (later after : Option Bytes) (old : Watched) (same : now.limits ≡ limits) (none : old.fault ≡ None) (so_far : IfSome known (λ bytes. IsKept limits each bytes count now later old.views.items old.stale.items)) where
+  within : (result : Result (Option Taken) StreamError) → Says now later result new after → IfSome (coming now later) (λ all. TakesComing limits (shown_by now) all result (shown_by new) (coming new after))
+  within result says = subst (λ (l : Limits). IfSome (coming now later) (λ all. TakesComing l (shown_by now) all result (shown_by new) (coming new after))) same says
 
-    -- an answer isn't taken
-    pub on_fault : (result : Result (Option View) WatchError) (why : AnswerFault) → result ≡ Err (Fault why) → NextShows now later result new after → IfSome known (λ bytes. HasEnded limits each bytes views (Some (count + 1, why)))
-    on_fault result why is shows = if_some known (λ bytes. IsLeft limits each bytes views count now.viewing (coming now later)) (λ bytes. HasEnded limits each bytes views (Some (count + 1, why)))
-        (λ bytes l.
-        let s = shows_left bytes (Err (Fault why)) l (subst (λ (r : Result (Option View) WatchError). NextShows now later r new after) is shows) in
-        ended limits each bytes views (Some (count + 1, why)) now.viewing l.left count l.has (s.0, refl, s.1)) on.left
+  pub next_kept : (t : Taken) (more : Watched) → Says now later (Ok (Some t)) new after → KeepsAnswer each (shown_by new) (count + 1) t old more → (more.fault ≡ None) × IfSome known (λ bytes. IsKept limits each bytes (count + 1) new after more.views.items more.stale.items)
+  next_kept outcomes.Shown more says keeps =
+      let stale : more.stale ≡ old.stale = ap (λ (w : Watched). w.stale) keeps.1 in (
+        ap (λ (w : Watched). w.fault) keeps.1 ∙ none,
+        if_some known (λ bytes. IsKept limits each bytes count now later old.views.items old.stale.items) (λ bytes. IsKept limits each bytes (count + 1) new after more.views.items more.stale.items)
+            (λ bytes here. rw stale (kept_shown limits each bytes count now new later after old.views.items old.stale.items here more.views.items (within (Ok (Some outcomes.Shown)) says) keeps.0)) so_far,
+      )
+  next_kept (outcomes.Stale at) more says keeps =
+      let views : more.views ≡ old.views = ap (λ (w : Watched). w.views) keeps.1 in (
+        ap (λ (w : Watched). w.fault) keeps.1 ∙ none,
+        if_some known (λ bytes. IsKept limits each bytes count now later old.views.items old.stale.items) (λ bytes. IsKept limits each bytes (count + 1) new after more.views.items more.stale.items)
+            (λ bytes here. rw views (kept_stale limits each bytes count now new later after old.views.items old.stale.items here at more.stale.items (within (Ok (Some (outcomes.Stale at))) says) keeps.0)) so_far,
+      )
+
+  watched : (fault : Option (ℕ × ClientError)) (bytes : Bytes) (here : IsKept limits each bytes count now later old.views.items old.stale.items) → TakesUpTo limits bytes here.come.given fault → IsWatched limits bytes each (record { views = old.views; stale = old.stale; fault = fault })
+  watched fault bytes here takes = record { given = here.come.given; takes = takes; views = here.views_are; unmarked = here.unmarked; stale = here.stale_are }
+
+  pub whole_kept : Says now later (Ok None) new after → IfSome known (λ bytes. IsWatched limits bytes each old)
+  whole_kept says = if_some known (λ bytes. IsKept limits each bytes count now later old.views.items old.stale.items) (λ bytes. IsWatched limits bytes each old)
+      (λ bytes here. subst (λ (f : Option (ℕ × ClientError)). IsWatched limits bytes each (record { views = old.views; stale = old.stale; fault = f })) (sym none)
+      (watched None bytes here (all_come limits bytes count now new later after here.come (within (Ok None) says)).0)) so_far
+
+  pub fault_kept : (error : ClientError) → Says now later (Err (Answer error)) new after → IfSome known (λ bytes. IsWatched limits bytes each (record { views = old.views; stale = old.stale; fault = Some (count + 1, error) }))
+  fault_kept error says = if_some known (λ bytes. IsKept limits each bytes count now later old.views.items old.stale.items) (λ bytes. IsWatched limits bytes each (record { views = old.views; stale = old.stale; fault = Some (count + 1, error) }))
+      (λ bytes here. watched (Some (count + 1, error)) bytes here (fault_come limits bytes count now new later after here.come error (within (Err (Answer error)) says)).0) so_far

@@ -1,19 +1,10 @@
--- Runs that answer asks: what comes of each request on a surface, and of the lines of an input.
+-- Runs that answer asks: what comes of each request on a source, and of the lines of an input.
 use Rattle.std.specs.Io.KnownBytes.{Appends}
-use Rattle.std.specs.Prelude.{◌≡◌, ℕ, ◌==◌, if◌then◌else◌, List, [], ◌∷◌, Option, Some, None, IfSome, String, Vec}
-use Rattle.std.specs.declared.alloc.Global.{Global}
-use Rattle.sessions.specs.Lines.{Say, SayFirst}
-use Rattle.termwiz_cell.specs.Width.{unicode_columns}
-use Rattle.termwiz_cell.specs.declared.emoji.UnicodeWidths.{UnicodeWidths}
-use Rattle.termwiz_screen.specs.Picture.{screens}
-use Rattle.termwiz_surface.specs.Schedule.{Acts}
-use Rattle.termwiz_surface.specs.Answer.{AnswerValue}
-use Rattle.termwiz_surface.specs.Carried.{IsGivenBy}
-use Rattle.termwiz_surface.specs.Surface.{SurfaceValue}
-use Rattle.termwiz_wire.specs.Sent.{answer}
-use Rattle.termwiz_wire.specs.declared.sent.Ask.{Ask}
+use Rattle.std.specs.Prelude.{◌≡◌, ℕ, true, false, List, [], ◌∷◌, Option, IfSome, String}
+use Rattle.sessions.specs.Lines.{Say, SayFirst, is_skipped}
+use Rattle.termwiz_screen.specs.Log.{next_number}
 use Rattle.sessions.specs.Requests.{SaysRequest}
-use Rattle.sessions.specs.Sending.{columns, own, first_surface, stream_of}
+use Rattle.sessions.specs.Sending.{Happens, IsAnswered, Sender, first_source, own_ask, stream_of}
 use Rattle.sessions.specs.Words.{GiveSending}
 use Rattle.sessions.specs.declared.send.runs.Request.{Request}
 use Rattle.sessions.specs.declared.send.runs.Request.TheVariants as request
@@ -22,54 +13,43 @@ use Rattle.sessions.specs.declared.send.runs.SendEvent.TheVariants.{Send}
 use Rattle.sessions.specs.declared.send.runs.SendOutcome.{SendOutcome}
 use Rattle.sessions.specs.declared.send.runs.SendOutcome.TheVariants.{Of, Sent}
 
--- the number that an ask of the source of this number is answered for: 0 where it names another one
-abbrev pub asked_number : ℕ → Ask → ℕ
-asked_number source ask = if ask.source == source then ask.number else 0
+-- from the source s, with n as the number of the last answer that was sent, over an event to t and
+-- k
+abbrev pub Does : Sender → ℕ → SendEvent → SendOutcome → Sender → ℕ → Type 0
+Does s n e (Of outcome) t k = Happens s e outcome t × (k ≡ n)
+Does s n Send (Sent bytes) t k =
+    IsAnswered s (own_ask s n) bytes t × (k ≡ next_number t.surface.log)
+Does s n _ (Sent bytes) t k = ⊥
 
-module _ (source : ℕ) where
-  -- the bytes are those of the answer, of number k, that the surface gives for the number n
-  pub record IsAnswered (s : SurfaceValue UnicodeWidths) (n : ℕ) (bytes : Vec ℕ Global) (k : ℕ) :
-      Type 0 where
-    pub given : AnswerValue
-    pub is_given : IsGivenBy screens columns s n given
-    pub encoded : bytes.items ≡ answer unicode_columns (record { source = source; answer = given })
-    pub number : k ≡ given.number
+-- the same over a request: the answer for an ask is none of those that go on from the last one
+abbrev pub Answers : Sender → ℕ → Request → SendOutcome → Sender → ℕ → Type 0
+Answers s n (request.Event e) outcome t k = Does s n e outcome t k
+Answers s n (request.Ask ask) (Sent bytes) t k = IsAnswered s ask bytes t × (k ≡ n)
+Answers s n (request.Ask ask) (Of outcome) t k = ⊥
 
-  -- from the surface s, with n as the number of the last answer that was sent, over an event to t
-  -- and k
-  abbrev pub Does :
-      SurfaceValue UnicodeWidths → ℕ → SendEvent → SendOutcome → SurfaceValue UnicodeWidths → ℕ →
-      Type 0
-  Does s n e (Of outcome) t k = Acts columns s (own e) outcome t × (k ≡ n)
-  Does s n Send (Sent bytes) t k = IsAnswered s n bytes k × (t ≡ s)
-  Does s n _ (Sent bytes) t k = ⊥
+-- what a line asks for is done, with one outcome, or none where it asks for nothing
+abbrev pub DoesLine : List ℕ → Sender → ℕ → List SendOutcome → Sender → ℕ → Type 0
+DoesLine line s n [] t k = (is_skipped line ≡ true) × (t ≡ s) × (k ≡ n)
+DoesLine line s n (outcome ∷ []) t k =
+    (is_skipped line ≡ false) ×
+    ((request : Request) × SaysRequest line request × Answers s n request outcome t k)
+DoesLine line s n _ t k = ⊥
 
-  -- the same over a request: an ask leaves both as they are
-  abbrev pub Answers :
-      SurfaceValue UnicodeWidths → ℕ → Request → SendOutcome → SurfaceValue UnicodeWidths → ℕ →
-      Type 0
-  Answers s n (request.Event e) outcome t k = Does s n e outcome t k
-  Answers s n (request.Ask ask) (Sent bytes) t k =
-      (last : ℕ) × IsAnswered s (asked_number source ask) bytes last × (t ≡ s) × (k ≡ n)
-  Answers s n (request.Ask ask) (Of outcome) t k = ⊥
+-- and this holds of the bytes that are sent
+pub record SendsLine (line : List ℕ) (s : Sender) (n : ℕ) (t : Sender) (k : ℕ)
+    (holds : List ℕ → Type 0) : Type 0 where
+  pub outcomes : List SendOutcome
+  pub does : DoesLine line s n outcomes t k
+  pub written : holds (stream_of outcomes)
 
-  -- the same where nothing may be asked for
-  abbrev pub MayAnswer :
-      SurfaceValue UnicodeWidths → ℕ → Option Request → Option SendOutcome →
-      SurfaceValue UnicodeWidths → ℕ → Type 0
-  MayAnswer s n None None t k = (t ≡ s) × (k ≡ n)
-  MayAnswer s n (Some asked) (Some outcome) t k = Answers s n asked outcome t k
-  MayAnswer s n _ _ t k = ⊥
-
-  -- the requests may have these outcomes in turn
-  pub data AnswersAll :
-      SurfaceValue UnicodeWidths → ℕ → List Request → List SendOutcome → Type 0 where
-    Ended : (s : SurfaceValue UnicodeWidths) (n : ℕ) → AnswersAll s n [] []
-    Next :
-        (s t : SurfaceValue UnicodeWidths) (n k : ℕ) (asked : Request) (outcome : SendOutcome)
-        (requests : List Request) (outcomes : List SendOutcome)
-        → Answers s n asked outcome t k → AnswersAll t k requests outcomes →
-        AnswersAll s n (asked ∷ requests) (outcome ∷ outcomes)
+-- the requests may have these outcomes in turn
+pub data AnswersAll : Sender → ℕ → List Request → List SendOutcome → Type 0 where
+  Ended : (s : Sender) (n : ℕ) → AnswersAll s n [] []
+  Next :
+      (s t : Sender) (n k : ℕ) (asked : Request) (outcome : SendOutcome) (requests : List Request)
+      (outcomes : List SendOutcome)
+      → Answers s n asked outcome t k → AnswersAll t k requests outcomes →
+      AnswersAll s n (asked ∷ requests) (outcome ∷ outcomes)
 
 -- what the lines of the input ask for is written, on a blank surface of this size; where the input
 -- is known, each line says its request
@@ -77,7 +57,7 @@ pub record WritesAnswers (source w h : ℕ) (input old new : Option (List ℕ)) 
   pub requests : List Request
   pub said : IfSome input (λ lines. Say SaysRequest lines requests)
   pub outcomes : List SendOutcome
-  pub answered : AnswersAll source (first_surface w h) 0 requests outcomes
+  pub answered : AnswersAll (first_source source w h) 0 requests outcomes
   pub written : Appends old new (stream_of outcomes)
 
 -- some lines at the front of the input are done, and this holds of the bytes that they ask for
@@ -86,7 +66,7 @@ pub record AnswersFirst (source w h : ℕ) (input : Option (List ℕ)) (holds : 
   pub requests : List Request
   pub said : IfSome input (λ lines. SayFirst SaysRequest lines requests)
   pub outcomes : List SendOutcome
-  pub answered : AnswersAll source (first_surface w h) 0 requests outcomes
+  pub answered : AnswersAll (first_source source w h) 0 requests outcomes
   pub written : holds (stream_of outcomes)
 
 -- as the words ask

@@ -1,43 +1,39 @@
--- Answers one behind another, each of which brings whoever took all before it to its own screen.
+-- Answers one behind another, each of which brings whoever took all before it to the full screen
+-- that its source had.
 use Rattle.std.specs.Bool.{⊤}
-use Rattle.std.specs.List.{flat_map}
-use Rattle.std.specs.Prelude.{◌≡◌, ℕ, ◌*◌, ◌≤◌, List, [], ◌∷◌, length, None}
+use Rattle.std.specs.Prelude.{◌≡◌, ◌*◌, ◌≤◌, true, false, List, [], ◌∷◌, length}
 use Rattle.termwiz_cell.specs.Width.{unicode_columns}
-use Rattle.termwiz_screen.specs.Screen.{Screen}
+use Rattle.termwiz_share.specs.Client.{Shown, blank_screen, fits, has_other_size, taken}
+use Rattle.termwiz_share.specs.Histories.{Given}
 use Rattle.termwiz_wire.specs.Sent.{IsSent, answer}
 use Rattle.termwiz_wire.specs.declared.fault.Limits.{Limits}
-use Rattle.termwiz_wire.specs.declared.sent.SentAnswer.{SentAnswer}
-use Rattle.sessions.specs.Viewing.{Viewing, refusal, taken}
 
--- an answer that was sent, and the screen that its source had then
-pub record Frame : Type 0 where
-  pub sent : SentAnswer
-  pub screen : Screen
+-- what is shown by whoever took the frame's answer
+abbrev pub shown_with : Given → Shown
+shown_with f =
+    record { picture = f.shown; source = f.sent.source; number = f.sent.answer.number }
 
--- the bytes of the answers
-abbrev pub encoded : List Frame → List ℕ
-encoded frames = flat_map (λ (f : Frame). answer unicode_columns f.sent) frames
+-- by whoever took none
+abbrev pub first_shown : Shown
+first_shown = record { picture = blank_screen 1 1; source = 0; number = 0 }
 
 -- the answer has no more cells and bytes than the limits
-pub record IsWithin (limits : Limits) (f : Frame) : Type 0 where
+pub record IsWithin (limits : Limits) (f : Given) : Type 0 where
   pub cells : f.sent.answer.width * f.sent.answer.height ≤ limits.cells
   pub bytes : length (answer unicode_columns f.sent) ≤ limits.bytes
 
--- a viewer takes the answer, and shows the frame's screen then
-pub record TakesFrame (v : Viewing) (f : Frame) : Type 0 where
+-- whoever shows s takes the answer, and shows the frame's screen then
+pub record TakesFrame (s : Shown) (f : Given) : Type 0 where
   pub form : IsSent unicode_columns f.sent
-  pub fresh : refusal v f.sent ≡ None
-  pub leads : (taken v f.sent).screen ≡ f.screen
+  pub fresh : fits s f.sent ≡ true
+  pub size : has_other_size s f.sent ≡ false
+  pub leads : taken unicode_columns s f.sent ≡ shown_with f
 
--- what a viewer has that shows a frame
-abbrev pub viewing_of : Frame → Viewing
-viewing_of f = record { source = f.sent.source; number = f.sent.answer.number; screen = f.screen }
+-- and takes each of the answers in turn
+abbrev pub TakesFrames : Shown → List Given → Type 0
+TakesFrames s [] = ⊤
+TakesFrames s (f ∷ frames) = TakesFrame s f × TakesFrames (shown_with f) frames
 
--- the viewer takes each of the answers in turn
-abbrev pub TakesFrames : Viewing → List Frame → Type 0
-TakesFrames v [] = ⊤
-TakesFrames v (f ∷ frames) = TakesFrame v f × TakesFrames (viewing_of f) frames
-
--- a viewer that has taken none does, whatever it shows
-abbrev pub IsChain : List Frame → Type 0
-IsChain frames = (p : Screen) → TakesFrames (record { source = 0; number = 0; screen = p }) frames
+-- whoever has taken none does
+abbrev pub IsChain : List Given → Type 0
+IsChain frames = TakesFrames first_shown frames

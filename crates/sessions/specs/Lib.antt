@@ -1,6 +1,5 @@
 pub mod Answering
 pub mod Events
-pub mod Faults
 pub mod Frames
 pub mod Lines
 pub mod Number
@@ -16,7 +15,6 @@ pub mod Size
 pub mod Status
 pub mod Taking
 pub mod ViewRun
-pub mod Viewing
 pub mod Watching
 pub mod Words
 pub mod Writing

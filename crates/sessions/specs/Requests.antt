@@ -1,7 +1,7 @@
 -- What comes on the input of a run that answers asks, and which lines say it.
 use Rattle.std.specs.Bool.{⊤}
 use Rattle.std.specs.Io.{StartsWith}
-use Rattle.std.specs.Prelude.{◌≡◌, ℕ, true, false, List, [], ◌∷◌, ◌++◌, codes, Option, Some, None}
+use Rattle.std.specs.Prelude.{◌≡◌, ℕ, true, false, List, ◌∷◌, ◌++◌, codes, Option, Some, None}
 use Rattle.sessions.specs.Lines.{is_skipped}
 use Rattle.sessions.specs.Number.{value_of}
 use Rattle.termwiz_wire.specs.declared.sent.Ask.{Ask}

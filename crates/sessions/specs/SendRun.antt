@@ -3,7 +3,7 @@
 use Rattle.std.specs.Io.KnownBytes.{Appends}
 use Rattle.std.specs.Prelude.{ℕ, List, Option, IfSome, String}
 use Rattle.sessions.specs.Lines.{Say}
-use Rattle.sessions.specs.Frames.{Frame}
+use Rattle.termwiz_share.specs.Histories.{Given}
 use Rattle.sessions.specs.Saying.{SaysSend}
 use Rattle.sessions.specs.Sending.{AreSent, stream_of}
 use Rattle.sessions.specs.Words.{GiveSending}
@@ -20,7 +20,7 @@ pub record IsSendRun {A : Type 0} (words : List (String A)) (script : Option (Li
   pub sizes : GiveSending words source width height
   pub events : List SendEvent
   pub said : IfSome script (λ bytes. Say SaysSend bytes events)
-  pub frames : List Frame
+  pub frames : List Given
   pub sent : AreSent source width height events outcomes frames
 
 -- what such a run sends is written

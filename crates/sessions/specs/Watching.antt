@@ -1,81 +1,102 @@
--- What a viewer shows of a stream: it takes each answer that leads on from what it shows, until one
--- doesn't, or the bytes make no answer.
+-- What is shown of a stream: each answer is taken in turn, until the bytes make none or one is of
+-- another size. One that is stale changes nothing.
 use Rattle.std.specs.List.{All}
-use Rattle.std.specs.Prelude.{◌≡◌, ℕ, ◌+◌, ◌-◌, Bool, List, [], ◌∷◌, map, drop, length, Option, Some, None, Ok, Err, if◌then◌else◌}
+use Rattle.std.specs.Prelude.{◌≡◌, ℕ, ◌+◌, ◌-◌, Bool, true, List, [], ◌∷◌, ◌++◌, map, drop, length, Option, Some, None, Ok, Err, if◌then◌else◌}
 use Rattle.termwiz_cell.specs.Width.{unicode_columns}
-use Rattle.termwiz_screen.specs.Screen.{Screen}
-use Rattle.termwiz_screen.specs.ScreenValue.{screen_value}
+use Rattle.termwiz_share.specs.Client.{Shown, fits, has_other_size, size_place, stale_place, taken}
+use Rattle.termwiz_share.specs.Feeding.{TakesAll}
+use Rattle.termwiz_share.specs.Histories.{Given}
+use Rattle.termwiz_share.specs.declared.error.ClientError.{ClientError}
+use Rattle.termwiz_share.specs.declared.error.ClientError.TheVariants as errors
+use Rattle.termwiz_share.specs.declared.taken.Taken.{Taken}
+use Rattle.termwiz_share.specs.declared.taken.Taken.TheVariants as outcomes
 use Rattle.termwiz_surface.specs.Schedule.{HasUnmarkedRows}
+use Rattle.termwiz_surface.specs.{full_value}
 use Rattle.termwiz_wire.specs.Answers.{answer_at}
 use Rattle.termwiz_wire.specs.declared.fault.Limits.{Limits}
 use Rattle.termwiz_wire.specs.declared.sent.SentAnswer.{SentAnswer}
-use Rattle.sessions.specs.Frames.{Frame, viewing_of}
-use Rattle.sessions.specs.Viewing.{Viewing, first_viewing, refusal, taken}
-use Rattle.sessions.specs.declared.watch.viewer.AnswerFault.{AnswerFault}
-use Rattle.sessions.specs.declared.watch.viewer.AnswerFault.TheVariants.{Bytes}
-use Rattle.sessions.specs.declared.watch.viewer.View.{View}
+use Rattle.sessions.specs.Frames.{first_shown, shown_with}
+use Rattle.sessions.specs.declared.watch.runs.View.{View}
 use Rattle.sessions.specs.declared.watch.runs.Watched.{Watched}
 
--- a number, and the screen that is shown with it
-pub record Shown : Type 0 where
-  pub number : ℕ
-  pub screen : Screen
-
-abbrev pub shown_by : View → Shown
-shown_by view = record { number = view.number; screen = screen_value view.screen }
-
-abbrev pub shown_of : Viewing → Shown
-shown_of v = record { number = v.number; screen = v.screen }
-
--- what is shown by whoever took the frame's answer
-abbrev pub shown_with : Frame → Shown
-shown_with f = shown_of (viewing_of f)
+-- what a view has
+abbrev pub viewed : View → Shown
+viewed view =
+    record { picture = full_value view.screen; source = view.source; number = view.number }
 
 -- all, or the last one alone
 abbrev pub kept : Bool → List Shown → List Shown
 kept each shown = if each then shown else drop (length shown - 1) shown
 
+-- a view of what is shown now is kept behind the others, or in their place
+pub record KeepsOne (each : Bool) (old : List View) (now : Shown) (new : List View) : Type 0 where
+  pub view : View
+  pub shows : viewed view ≡ now
+  pub unmarked : HasUnmarkedRows view.screen.screen
+  pub kept : new ≡ (if each then old else []) ++ view ∷ []
+
+-- what comes of the answer of this number is kept, which was taken so
+abbrev pub KeepsAnswer : Bool → Shown → ℕ → Taken → Watched → Watched → Type 0
+KeepsAnswer each now number outcomes.Shown old new =
+    KeepsOne each old.views.items now new.views.items ×
+    (new ≡ record old { views = new.views })
+KeepsAnswer each now number (outcomes.Stale at) old new =
+    (new.stale.items ≡ old.stale.items ++ (number, at) ∷ []) ×
+    (new ≡ record old { stale = new.stale })
+
+-- what is shown after an answer that whoever shows s takes, and is not where it is stale
+abbrev pub shown_one : Shown → SentAnswer → List Shown
+shown_one s a = if fits s a then taken unicode_columns s a ∷ [] else []
+
+-- what is shown after each of these in turn
+abbrev pub shown_each : Shown → List SentAnswer → List Shown
+shown_each s [] = []
+shown_each s (a ∷ more) = shown_one s a ++ shown_each (taken unicode_columns s a) more
+
+-- the number of an answer that is stale, and where that begins which doesn't fit
+abbrev pub stale_one : ℕ → Shown → SentAnswer → List (ℕ × ℕ)
+stale_one n s a = if fits s a then [] else (n, stale_place s a) ∷ []
+
+-- of each of these, the first of which has the number n
+abbrev pub stale_each : ℕ → Shown → List SentAnswer → List (ℕ × ℕ)
+stale_each n s [] = []
+stale_each n s (a ∷ more) = stale_one n s a ++ stale_each (n + 1) (taken unicode_columns s a) more
+
 module _ (limits : Limits) where
-  -- the bytes begin with an answer that the viewer v takes
-  pub record TakesNext (v : Viewing) (bytes : List ℕ) (u : Viewing) (left : List ℕ) : Type 0 where
-    pub sent : SentAnswer
-    pub decoded : answer_at unicode_columns limits bytes ≡ Ok (sent, left)
-    pub fresh : refusal v sent ≡ None
-    pub is_taken : u ≡ taken v sent
-
-  -- from v on these answers are taken in turn, which leave the viewer at u, and then the rest of
-  -- the bytes
-  pub data Watches : Viewing → List ℕ → List Viewing → Viewing → List ℕ → Type 0 where
-    Ended : (v : Viewing) (bytes : List ℕ) → Watches v bytes [] v bytes
-    Taken : (v w u : Viewing) (bytes left rest : List ℕ) (shown : List Viewing)
-        → TakesNext v bytes w left → Watches w left shown u rest →
-        Watches v bytes (w ∷ shown) u rest
-
   -- no answer is taken from the front of these bytes
-  abbrev pub TakesNone : Viewing → List ℕ → AnswerFault → Type 0
-  TakesNone v bytes (Bytes fault) = answer_at unicode_columns limits bytes ≡ Err fault
-  TakesNone v bytes why =
-      (sent : SentAnswer) × (left : List ℕ) ×
-      (answer_at unicode_columns limits bytes ≡ Ok (sent, left)) × (refusal v sent ≡ Some why)
+  abbrev pub TakesNone : Shown → List ℕ → ClientError → Type 0
+  TakesNone s bytes (errors.Fault fault) = answer_at unicode_columns limits bytes ≡ Err fault
+  TakesNone s bytes (errors.Size at) =
+      (a : SentAnswer) × (left : List ℕ) ×
+      (answer_at unicode_columns limits bytes ≡ Ok (a, left)) × (has_other_size s a ≡ true) ×
+      (at ≡ size_place s a)
+  TakesNone s bytes _ = ⊥
 
   -- so many answers were taken: either the bytes end there, or the next one isn't taken
-  abbrev pub Ends : Viewing → List ℕ → ℕ → Option (ℕ × AnswerFault) → Type 0
-  Ends v rest count None = rest ≡ []
-  Ends v rest count (Some fault) =
-      (rest ≡ [] → ⊥) × (fault.0 ≡ count + 1) × TakesNone v rest fault.1
+  abbrev pub Ends : Shown → List ℕ → ℕ → Option (ℕ × ClientError) → Type 0
+  Ends s rest count None = rest ≡ []
+  Ends s rest count (Some fault) =
+      (rest ≡ [] → ⊥) × (fault.0 ≡ count + 1) × TakesNone s rest fault.1
 
-  -- what is shown of these bytes, and why no more is
-  pub record IsWatched (bytes : List ℕ) (each : Bool) (w : Watched) : Type 0 where
-    pub shown : List Viewing
-    pub last : Viewing
+  -- these answers of the bytes are taken, with this end
+  pub record TakesUpTo (bytes : List ℕ) (given : List SentAnswer) (fault : Option (ℕ × ClientError)) :
+      Type 0 where
+    pub last : Shown
     pub rest : List ℕ
-    pub watches : Watches first_viewing bytes shown last rest
-    pub ends : Ends last rest (length shown) w.fault
-    pub views : map shown_by w.views.items ≡ kept each (map shown_of shown)
-    pub unmarked : All (λ (view : View). HasUnmarkedRows view.screen) w.views.items
+    pub takes : TakesAll unicode_columns limits first_shown bytes given last rest
+    pub ends : Ends last rest (length given) fault
+
+  -- what is shown of these bytes, which answers are stale, and why no more are taken
+  pub record IsWatched (bytes : List ℕ) (each : Bool) (w : Watched) : Type 0 where
+    pub given : List SentAnswer
+    pub takes : TakesUpTo bytes given w.fault
+    pub views : map viewed w.views.items ≡ kept each (shown_each first_shown given)
+    pub unmarked : All (λ (view : View). HasUnmarkedRows view.screen.screen) w.views.items
+    pub stale : w.stale.items ≡ stale_each 1 first_shown given
 
 -- after each frame its screen is shown, or after the last one alone
-pub record ShowsAll (each : Bool) (frames : List Frame) (w : Watched) : Type 0 where
-  pub views : map shown_by w.views.items ≡ kept each (map shown_with frames)
-  pub unmarked : All (λ (view : View). HasUnmarkedRows view.screen) w.views.items
+pub record ShowsAll (each : Bool) (frames : List Given) (w : Watched) : Type 0 where
+  pub views : map viewed w.views.items ≡ kept each (map shown_with frames)
+  pub unmarked : All (λ (view : View). HasUnmarkedRows view.screen.screen) w.views.items
+  pub stale : w.stale.items ≡ []
   pub fault : w.fault ≡ None

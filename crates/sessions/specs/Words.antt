@@ -10,22 +10,22 @@ pub record IsWholeNumber (word : List ℕ) : Type 0 where
   pub numeral : IsNumeral 10 word
   pub fits : value_of word < 2 ^ 64
 
-pub record IsSourceNo (word : List ℕ) : Type 0 where
+pub record IsPositive (word : List ℕ) : Type 0 where
   pub whole : IsWholeNumber word
-  pub named : 0 < value_of word
+  pub some : 0 < value_of word
 
 module _ {A : Type 0} where
   -- a size, behind the number of the source where there is one
   abbrev pub AreSendWords : List (String A) → Type 0
   AreSendWords (option ∷ number ∷ width ∷ height ∷ []) =
-      (string_bytes option ≡ codes "-s") × IsSourceNo (string_bytes number) ×
+      (string_bytes option ≡ codes "-s") × IsPositive (string_bytes number) ×
       AreSizes (width ∷ height ∷ [])
   AreSendWords words = AreSizes words
 
   -- the words give this source, which is 1 where they name none, this width and this height
   abbrev pub GiveSending : List (String A) → ℕ → ℕ → ℕ → Type 0
   GiveSending (option ∷ number ∷ width ∷ height ∷ []) source w h =
-      (string_bytes option ≡ codes "-s") × IsSourceNo (string_bytes number) ×
+      (string_bytes option ≡ codes "-s") × IsPositive (string_bytes number) ×
       (source ≡ value_of (string_bytes number)) × GiveSizes (width ∷ height ∷ []) w h
   GiveSending words source w h = (source ≡ 1) × GiveSizes words w h
 
@@ -57,7 +57,7 @@ module _ {A : Type 0} where
         AskFor o (word ∷ number ∷ words) p
     Bytes :
         (o p : WatchOptions) (word number : String A) (words : List (String A)) →
-        string_bytes word ≡ codes "--bytes" → IsWholeNumber (string_bytes number)
+        string_bytes word ≡ codes "--bytes" → IsPositive (string_bytes number)
         → AskFor
         (record o {
           limits =

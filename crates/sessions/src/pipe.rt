@@ -5,9 +5,9 @@ ghost use Rattle.sessions.specs.Pipe.{IsPiped};
 ghost use Rattle.sessions.specs.Sending.{IsSendInRange, bytes_of, stream_of};
 ghost use Rattle.termwiz_surface.specs.{IsSurfaceSize};
 
+use crate::ending::SessionError;
 use crate::send::runs::{SendEvent, SendOutcome, sent};
 use crate::watch::runs::{Watched, watch};
-use crate::watch::viewer::WatchError;
 use std::alloc::{AllocError, Global};
 use termwiz_wire::{Limits, SourceNo};
 
@@ -20,8 +20,9 @@ pub fn piped(
     size: (usize, usize),
     events: Vec<SendEvent>,
     each: bool,
-) -> Result<Watched, WatchError>
+) -> Result<Watched, SessionError>
     requires source { 0 < source }
+    requires some { 0 < limits.bytes }
     requires size { IsSurfaceSize size.0 size.1 }
     requires sizes { All IsSendInRange events.items }
     ensures { IfOk result (λ shown.

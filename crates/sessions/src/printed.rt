@@ -2,7 +2,8 @@
 ghost use Rattle.std.specs.Prelude.{Some, codes};
 ghost use Rattle.std.specs.Fmt.{WritesOnOk};
 ghost use Rattle.termwiz_screen.specs.ScreenValue.{cells_of, screen_value};
-ghost use Rattle.sessions.specs.Printed.{cursor_line, row_lines, row_text, viewed_lines};
+ghost use Rattle.sessions.specs.Printed.{cursor_line, row_lines, row_text, stale_line};
+ghost use Rattle.sessions.specs.Printed.{viewed_lines};
 
 use std::fmt;
 use std::fmt::{Display, Formatter};
@@ -41,6 +42,18 @@ impl Display for PrintedView<'_> {
 
     fn fmt<W: fmt::Write>(&self, f: &mut Formatter<W>) -> fmt::Result {
         write_viewed(f, "viewer", self.0, self.1)
+    }
+}
+
+/// The number of an answer that is stale, and the byte of it at which that begins which doesn't fit.
+#[derive(Drop)]
+pub struct PrintedStale(pub usize, pub usize);
+
+impl Display for PrintedStale {
+    ghost output = { λ stale. Some (stale_line stale.0 stale.1) };
+
+    fn fmt<W: fmt::Write>(&self, f: &mut Formatter<W>) -> fmt::Result {
+        writeln!(f, "answer {}: stale at {}", self.0, self.1)
     }
 }
 

@@ -174,7 +174,7 @@ fn events<R: Read>(alloc: Global, input: &mut R) -> Result<Vec<SendEvent>, Sessi
 }
 
 /// Sends each answer, and reports what was refused.
-pub(crate) fn send_each<O: Write, E: Write>(
+fn send_each<O: Write, E: Write>(
     alloc: Global,
     outcomes: &[SendOutcome],
     out: &mut O,
@@ -192,7 +192,7 @@ pub(crate) fn send_each<O: Write, E: Write>(
 }
 
 /// Sends an answer, or reports what was refused.
-fn send_one<O: Write, E: Write>(
+pub(crate) fn send_one<O: Write, E: Write>(
     alloc: Global,
     outcome: &SendOutcome,
     out: &mut O,

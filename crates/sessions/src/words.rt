@@ -4,7 +4,7 @@ ghost use Rattle.std.specs.Option.{SomeIff};
 ghost use Rattle.sessions.specs.Number.{IsNumber, value_of};
 ghost use Rattle.sessions.specs.Size.{AreSizes, GiveSizes, IsSize};
 ghost use Rattle.sessions.specs.Words.{AreSendWords, AskFor, GiveSending, IsInteractive};
-ghost use Rattle.sessions.specs.Words.{IsSourceNo, IsWholeNumber, first_options};
+ghost use Rattle.sessions.specs.Words.{IsPositive, IsWholeNumber, first_options};
 ghost use Rattle.sessions.specs.declared.words.WatchOptions.{WatchOptions};
 
 use crate::ending::SessionError;
@@ -77,9 +77,9 @@ pub(crate) fn whole(word: &str) -> Option<usize>
     word.parse().ok()
 }
 
-/// The number of a source that a word writes, from 1 on.
-fn source_number(word: &str) -> Option<SourceNo>
-    ensures { SomeIff result (IsSourceNo word.now) (value_of word.now) }
+/// The same from 1 on.
+fn positive(word: &str) -> Option<usize>
+    ensures { SomeIff result (IsPositive word.now) (value_of word.now) }
 {
     let number = whole(word)?;
     if number == 0 { None } else { Some(number) }
@@ -117,7 +117,7 @@ pub fn send_options(args: &[String]) -> Option<SendOptions>
 {
     match args {
         [option, number, width, height] if option.as_str() == "-s" => Some(SendOptions {
-            source: source_number(number.as_str())?,
+            source: positive(number.as_str())?,
             width: size(width.as_str())?,
             height: size(height.as_str())?,
         }),
@@ -133,9 +133,10 @@ pub fn send_options(args: &[String]) -> Option<SendOptions>
 }
 
 /// What the words of `surfwatch` ask for, in any order: `-a`, and the limits behind `--cells` and
-/// `--bytes`.
+/// `--bytes`, of which the second is 1 at least.
 pub fn watch_options(args: &[String]) -> Option<WatchOptions>
-    ensures { IfSome result (λ options. AskFor first_options args.now options) }
+    ensures asked { IfSome result (λ options. AskFor first_options args.now options) }
+    ensures some { IfSome result (λ options. 0 < options.limits.bytes) }
 {
     let mut options = WatchOptions {
         each: false,
@@ -154,6 +155,7 @@ impl WatchOptions {
         ensures asked { IfSome result (λ rest. (p : WatchOptions) →
             AskFor self.new rest.now p → AskFor self.old words.now p) }
         ensures shorter { IfSome result (λ rest. length rest.now < length words.now) }
+        ensures some { 0 < self.old.limits.bytes → IfSome result (λ _. 0 < self.new.limits.bytes) }
     {
         match words {
             [word, rest @ ..] if word.as_str() == "-a" => {
@@ -165,7 +167,7 @@ impl WatchOptions {
                 Some(rest)
             }
             [word, number, rest @ ..] if word.as_str() == "--bytes" => {
-                self.limits.bytes = whole(number.as_str())?;
+                self.limits.bytes = positive(number.as_str())?;
                 Some(rest)
             }
             _ => None,

@@ -1,21 +1,21 @@
-//! A surface that answers what comes on an input, line by line.
-ghost use Rattle.std.specs.Prelude.{◌≡◌, ◌<◌, IfErr, IfOk, IfSome, OnOk};
+//! A source that answers what comes on an input, line by line.
+ghost use Rattle.std.specs.Prelude.{◌≡◌, ◌⊎◌, ◌<◌, IfErr, IfOk, IfSome, OnOk};
 ghost use Rattle.std.specs.Io.KnownBytes.{Appends};
 ghost use Rattle.termwiz_surface.specs.{IsSurfaceSize};
-ghost use Rattle.sessions.specs.Answering.{AnswersFirst, MayAnswer, WritesAnswers};
+ghost use Rattle.sessions.specs.Answering.{AnswersFirst, SendsLine, WritesAnswers};
 ghost use Rattle.sessions.specs.Requests.{IsRequestInRange, MaySay};
 ghost use Rattle.sessions.specs.Status.{status_of};
 ghost use Rattle.sessions.specs.Writing.{AppendsSome};
 
 use crate::ending::SessionError;
 use crate::script::{Command, LineError};
-use crate::send::runs::{Request, SendOutcome, answered};
-use crate::send::send_each;
+use crate::send::runs::{Request, answered};
+use crate::send::send_one;
 use crate::words::SendOptions;
-use std::alloc::{AllocError, Global};
+use std::alloc::Global;
 use std::io::{BufRead, Error, ErrorKind, Write};
-use termwiz_surface::{SEQ_ZERO, SequenceNo, Surface, UnicodeWidths};
-use termwiz_wire::SourceNo;
+use termwiz_share::Source;
+use termwiz_surface::{SEQ_ZERO, SequenceNo, UnicodeWidths};
 
 /// Does on a blank surface what each line of `input` asks for, as soon as the line has come, and
 /// sends the answers. What is refused goes to `err`.
@@ -36,39 +36,51 @@ pub(crate) fn answer_lines<B: BufRead + Drop, O: Write, E: Write>(
         AnswersFirst options.source options.width options.height
         (B.remaining input) (Appends (O.contents out.old) (O.contents out.new))) }
 {
-    let mut surface = Surface::new_full(alloc, options.width, options.height, UnicodeWidths)?;
+    let (width, height) = (options.width, options.height);
+    let mut source = Source::new(alloc, options.source, width, height, UnicodeWidths)?;
     let mut last = SEQ_ZERO;
     let mut number: usize = 0;
     for piece in input.split(alloc, b'\n') {
         let line = piece.map_err(|error| unread(&error))?;
         number = number.saturating_add(1);
-        let request = request(alloc, line.as_slice(), number)?;
-        let outcome = outcome(alloc, options.source, &mut surface, &mut last, request)?;
-        send_each(alloc, outcome.as_slice(), out, err)?;
+        answer_line(
+            alloc,
+            &mut source,
+            &mut last,
+            line.as_slice(),
+            number,
+            out,
+            err,
+        )?;
     }
     Ok(())
 }
 
-/// What comes of a line's request, if it says one. The number of the last answer that was sent is
-/// `last`.
-fn outcome(
+/// Does what the line of this number asks for, if it says something, and sends the answer. The
+/// number of the last answer that was sent is `last`.
+fn answer_line<O: Write, E: Write>(
     alloc: Global,
-    source: SourceNo,
-    surface: &mut Surface<UnicodeWidths>,
+    source: &mut Source<UnicodeWidths>,
     last: &mut SequenceNo,
-    request: Option<Request>,
-) -> Result<Option<SendOutcome>, AllocError>
-    requires source { 0 < source }
-    requires in_range { IfSome request IsRequestInRange }
-    ensures { IfOk result (λ outcome.
-        MayAnswer source surface.old last.old request outcome surface.new last.new) }
+    line: &[u8],
+    number: usize,
+    out: &mut O,
+    err: &mut E,
+) -> Result<(), SessionError>
+    ensures answered { OnOk result (
+        SendsLine line.now source.old last.old source.new last.new
+        (Appends (O.contents out.old) (O.contents out.new))) }
+    ensures begun { (out.new ≡ out.old)
+        ⊎ SendsLine line.now source.old last.old source.new last.new
+        (AppendsSome (O.contents out.old) (O.contents out.new)) }
+    ensures stopped { IfErr result (λ error. status_of error ≡ 2 → out.new ≡ out.old) }
 {
-    match request {
+    match request(alloc, line, number)? {
         Some(request) => {
-            let outcome = answered(alloc, source, surface, last, request)?;
-            Ok(Some(outcome))
+            let outcome = answered(alloc, source, last, request)?;
+            send_one(alloc, &outcome, out, err)
         }
-        None => Ok(None),
+        None => Ok(()),
     }
 }
 

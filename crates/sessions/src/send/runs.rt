@@ -1,23 +1,21 @@
-//! What is sent of a surface: its answers as bytes, each for a viewer that accepted all before it.
-ghost use Rattle.std.specs.Prelude.{◌≡◌, ◌<◌, IfOk, List, ℕ};
+//! What is sent of a source: its answers as bytes, each for a viewer that took all before it.
+ghost use Rattle.std.specs.Prelude.{◌<◌, IfOk, List, ℕ};
 ghost use Rattle.std.specs.List.{All};
-ghost use Rattle.termwiz_surface.specs.Schedule.{Acts};
-ghost use Rattle.termwiz_surface.specs.declared.view.Event.TheVariants as event;
-ghost use Rattle.termwiz_surface.specs.{IsGivenBy, IsSurfaceSize, KeepsNames, screens};
-ghost use Rattle.termwiz_cell.specs.Width.{unicode_columns};
-ghost use Rattle.termwiz_wire.specs.Sent.{IsSent, answer};
-ghost use Rattle.termwiz_surface.specs.Answer.{AnswerValue};
-ghost use Rattle.sessions.specs.Answering.{Answers, Does, IsAnswered, asked_number};
-ghost use Rattle.sessions.specs.Frames.{Frame, IsChain};
+ghost use Rattle.sessions.specs.Answering.{Answers, Does};
+ghost use Rattle.sessions.specs.Frames.{IsChain};
 ghost use Rattle.sessions.specs.Requests.{IsRequestInRange};
 ghost use Rattle.sessions.specs.SendSteps.{HasNamed, Steps};
-ghost use Rattle.sessions.specs.Sending.{AreSent, IsSendInRange, columns};
-ghost use Rattle.sessions.specs.Viewing.{Viewing};
+ghost use Rattle.sessions.specs.Sending.{AreSent, Happens, IsAnswered, IsSendInRange, columns};
+ghost use Rattle.termwiz_share.specs.Client.{Shown};
+ghost use Rattle.termwiz_share.specs.Histories.{Given};
+ghost use Rattle.termwiz_share.specs.{KeepsClients};
+ghost use Rattle.termwiz_surface.specs.{IsSurfaceSize};
 
 use std::alloc::{AllocError, Global};
+use termwiz_share::Source;
 use termwiz_surface::view::Outcome;
-use termwiz_surface::{Change, SEQ_ZERO, SequenceNo, Surface, SurfaceError, UnicodeWidths};
-use termwiz_wire::{Ask, SourceNo, encode_answer};
+use termwiz_surface::{Change, SEQ_ZERO, SequenceNo, UnicodeWidths};
+use termwiz_wire::{Ask, SourceNo};
 
 /// What happens to a surface whose answers are sent.
 #[derive(Drop, Debug)]
@@ -58,45 +56,42 @@ pub enum SendOutcome {
 ///   outcomes.
 pub fn sent(
     alloc: Global,
-    source: SourceNo,
+    number: SourceNo,
     width: usize,
     height: usize,
     events: Vec<SendEvent>,
 ) -> Result<Vec<SendOutcome>, AllocError>
-    requires source { 0 < source }
+    requires source { 0 < number }
     requires size { IsSurfaceSize width height }
     requires sizes { All IsSendInRange events.items }
-    ensures { IfOk result (λ outcomes. (frames : List Frame) ×
-        AreSent source width height events.items outcomes.items frames × IsChain frames) }
+    ensures { IfOk result (λ outcomes. (frames : List Given) ×
+        AreSent number width height events.items outcomes.items frames × IsChain frames) }
 {
-    let mut surface = Surface::new_full(alloc, width, height, UnicodeWidths)?;
+    let mut source = Source::new(alloc, number, width, height, UnicodeWidths)?;
     let mut last = SEQ_ZERO;
     let mut outcomes = Vec::new(alloc);
     for event in events {
-        let outcome = serve(alloc, source, &mut surface, &mut last, event)?;
+        let outcome = serve(alloc, &mut source, &mut last, event)?;
         outcomes.push(outcome)?;
     }
     Ok(outcomes)
 }
 
-/// Does what is asked of a surface that is the source of this number. The number of the last
-/// answer that was sent is `last`.
+/// Does what is asked of a source. The number of the last answer that was sent is `last`.
 pub(crate) fn answered(
     alloc: Global,
-    source: SourceNo,
-    surface: &mut Surface<UnicodeWidths>,
+    source: &mut Source<UnicodeWidths>,
     last: &mut SequenceNo,
     request: Request,
 ) -> Result<SendOutcome, AllocError>
-    requires source { 0 < source }
     requires in_range { IsRequestInRange request }
     ensures { IfOk result (λ outcome.
-        Answers source surface.old last.old request outcome surface.new last.new) }
+        Answers source.old last.old request outcome source.new last.new) }
 {
     match request {
-        Request::Event(event) => serve(alloc, source, surface, last, event),
+        Request::Event(event) => serve(alloc, source, last, event),
         Request::Ask(ask) => {
-            let bytes = respond(alloc, source, surface, ask)?;
+            let bytes = respond(alloc, source, ask)?;
             Ok(SendOutcome::Sent(bytes))
         }
     }
@@ -105,99 +100,68 @@ pub(crate) fn answered(
 // Does one event. The number of the last answer that was sent is `last`.
 fn serve(
     alloc: Global,
-    source: SourceNo,
-    surface: &mut Surface<UnicodeWidths>,
+    source: &mut Source<UnicodeWidths>,
     last: &mut SequenceNo,
     event: SendEvent,
 ) -> Result<SendOutcome, AllocError>
-    requires source { 0 < source }
     requires in_range { IsSendInRange event }
-    ensures steps { IfOk result (λ outcome. (v : Viewing) → HasNamed source surface.old last.old v →
-        Steps source surface.old last.old v event outcome surface.new last.new) }
+    ensures steps { IfOk result (λ outcome. (v : Shown) → HasNamed source.old last.old v →
+        Steps source.old last.old v event outcome source.new last.new) }
     ensures does { IfOk result (λ outcome.
-        Does source surface.old last.old event outcome surface.new last.new) }
+        Does source.old last.old event outcome source.new last.new) }
 {
     match event {
-        SendEvent::Changes(changes) => Ok(SendOutcome::Of(added(surface, changes))),
+        SendEvent::Changes(changes) => Ok(SendOutcome::Of(added(source, changes))),
         SendEvent::Flush(seq) => {
-            surface.flush_changes_older_than(seq);
+            source.flush_changes_older_than(seq);
             Ok(SendOutcome::Of(Outcome::Done))
         }
-        SendEvent::Resize(width, height) => Ok(SendOutcome::Of(resized(surface, width, height))),
+        SendEvent::Resize(width, height) => Ok(SendOutcome::Of(resized(source, width, height))),
         SendEvent::Send => {
-            let bytes = send(alloc, source, surface, last)?;
+            let ask = Ask {
+                source: source.number(),
+                number: *last,
+            };
+            let bytes = respond(alloc, source, ask)?;
+            *last = source.surface().current_seqno();
             Ok(SendOutcome::Sent(bytes))
         }
     }
 }
 
 // Adds a list of changes.
-fn added(surface: &mut Surface<UnicodeWidths>, changes: Vec<Change>) -> Outcome
-    ensures acts { Acts columns surface.old (event.Changes changes) result surface.new }
-    ensures remembered { KeepsNames unicode_columns surface.old surface.new }
+fn added(source: &mut Source<UnicodeWidths>, changes: Vec<Change>) -> Outcome
+    ensures happens { Happens source.old (SendEvent.Changes changes) result source.new }
+    ensures serves { KeepsClients columns source.old source.new }
 {
-    match surface.add_changes(changes) {
+    match source.add_changes(changes) {
         Ok(number) => Outcome::Answered(number),
         Err(error) => Outcome::Refused(error),
     }
 }
 
 // Takes another size.
-fn resized(surface: &mut Surface<UnicodeWidths>, width: usize, height: usize) -> Outcome
+fn resized(source: &mut Source<UnicodeWidths>, width: usize, height: usize) -> Outcome
     requires size { IsSurfaceSize width height }
-    ensures acts { Acts columns surface.old (event.Resize width height) result surface.new }
-    ensures remembered { KeepsNames unicode_columns surface.old surface.new }
+    ensures happens { Happens source.old (SendEvent.Resize width height) result source.new }
+    ensures serves { KeepsClients columns source.old source.new }
 {
-    match surface.resize(width, height) {
+    match source.resize(width, height) {
         Ok(()) => Outcome::Done,
         Err(error) => Outcome::Refused(error),
     }
 }
 
-// The bytes of the answer for the last number, which is the answer's number then.
-fn send(
-    alloc: Global,
-    source: SourceNo,
-    surface: &Surface<UnicodeWidths>,
-    last: &mut SequenceNo,
-) -> Result<Vec<u8>, AllocError>
-    requires { 0 < source }
-    ensures { IfOk result (λ bytes. (a : AnswerValue)
-        × IsGivenBy screens columns surface.now last.old a
-        × IsSent unicode_columns (record { source = source; answer = a })
-        × (bytes.items ≡ answer unicode_columns (record { source = source; answer = a }))
-        × (last.new ≡ a.number)) }
-{
-    let answer = surface.answer(*last)?;
-    let mut bytes = Vec::new(alloc);
-    encode_answer(&mut bytes, &UnicodeWidths, source, &answer)?;
-    *last = answer.number();
-    Ok(bytes)
-}
-
 // The bytes of the answer for an ask.
 fn respond(
     alloc: Global,
-    source: SourceNo,
-    surface: &Surface<UnicodeWidths>,
+    source: &mut Source<UnicodeWidths>,
     ask: Ask,
 ) -> Result<Vec<u8>, AllocError>
-    requires { 0 < source }
-    ensures { IfOk result (λ bytes. (number : ℕ)
-        × IsAnswered source surface.now (asked_number source ask) bytes number) }
+    ensures answered { IfOk result (λ bytes. IsAnswered source.old ask bytes source.new) }
+    ensures serves { KeepsClients columns source.old source.new }
 {
-    let mut number = asked_number(source, ask);
-    let bytes = send(alloc, source, surface, &mut number)?;
+    let mut bytes = Vec::new(alloc);
+    source.respond(ask, &mut bytes)?;
     Ok(bytes)
-}
-
-// The number that an ask is answered for: 0, for a repaint, where it names another source.
-fn asked_number(source: SourceNo, ask: Ask) -> SequenceNo
-    ensures { result ≡ asked_number source ask }
-{
-    if ask.source == source {
-        ask.number
-    } else {
-        SEQ_ZERO
-    }
 }

@@ -1,24 +1,41 @@
 //! What is shown of a stream of answers.
-ghost use Rattle.std.specs.Prelude.{◌≡◌, ◌++◌, ◌∷◌, [], IfOk, IfSome, OnOk, if◌then◌else◌};
-ghost use Rattle.sessions.specs.Watching.{IsWatched};
+ghost use Rattle.std.specs.Prelude.{◌<◌, IfOk, IfSome, OnOk};
+ghost use Rattle.sessions.specs.Watching.{IsWatched, KeepsAnswer, KeepsOne};
+ghost use Rattle.termwiz_share.specs.Client.{shown_by};
 
-use crate::watch::viewer::{AnswerFault, View, WatchError};
-use crate::watch::watcher::Watcher;
+use crate::ending::SessionError;
+use crate::watch::stream::{StreamError, next_answer};
 use std::alloc::{AllocError, Global};
 use std::io::Read;
-use termwiz_wire::Limits;
+use termwiz_share::{Client, ClientError, Taken};
+use termwiz_surface::{FullScreen, SequenceNo, UnicodeWidths};
+use termwiz_wire::{Limits, SourceNo};
+
+/// What is shown once an answer was taken.
+#[derive(Drop, Debug)]
+pub struct View {
+    /// The answer's source.
+    pub source: SourceNo,
+    /// The answer's number.
+    pub number: SequenceNo,
+    /// What is shown. Its rows have the number 0 and no flags.
+    pub screen: FullScreen,
+}
 
 /// What is shown of a stream.
 #[derive(Drop, Debug)]
 pub struct Watched {
-    /// What is shown after each answer, or after the last one.
+    /// What is shown after each answer that isn't stale, or after the last of them.
     pub views: Vec<View>,
+    /// The number of each answer that is stale, from 1, and the byte of it at which that begins
+    /// which doesn't fit.
+    pub stale: Vec<(usize, usize)>,
     /// The number of the answer, from 1, that isn't taken, and why.
-    pub fault: Option<(usize, AnswerFault)>,
+    pub fault: Option<(usize, ClientError)>,
 }
 
-/// What a viewer shows of a stream: after each of its answers, or after the last one alone. No
-/// answer may have more cells or bytes than the limits.
+/// What is shown of a stream: after each of its answers that isn't stale, or after the last one
+/// alone. No answer may have more cells or bytes than the limits.
 ///
 /// At a fault it shows what came before. It fails where the stream can't be read, and where memory
 /// is refused.
@@ -27,31 +44,67 @@ pub fn watch<R: Read>(
     limits: Limits,
     input: &mut R,
     each: bool,
-) -> Result<Watched, WatchError>
+) -> Result<Watched, SessionError>
+    requires some { 0 < limits.bytes }
     ensures { IfOk result (λ watched. IfSome (R.remaining input.old) (λ bytes.
         IsWatched limits bytes each watched)) }
 {
-    let mut watcher = Watcher::new(alloc, limits)?;
-    let mut views = Vec::new(alloc);
+    let mut client = Client::new(alloc, UnicodeWidths, limits)?;
+    let mut watched = Watched {
+        views: Vec::new(alloc),
+        stale: Vec::new(alloc),
+        fault: None,
+    };
     for count in 0..usize::MAX {
-        match watcher.next(input) {
-            Ok(Some(view)) => keep(&mut views, view, each)?,
-            Ok(None) => return Ok(Watched { views, fault: None }),
-            Err(WatchError::Fault(fault)) => {
-                let fault = Some((count + 1, fault));
-                return Ok(Watched { views, fault });
+        match next_answer(&mut client, input) {
+            Ok(Some(taken)) => watched.keep(&client, count + 1, taken, each)?,
+            Ok(None) => return Ok(watched),
+            Err(StreamError::Answer(error)) => {
+                watched.fault = Some((count + 1, error));
+                return Ok(watched);
             }
-            Err(error) => return Err(error),
+            Err(StreamError::Session(error)) => return Err(error),
         }
     }
-    Err(WatchError::Unreadable)
+    Err(SessionError::Unreadable)
 }
 
-// Keeps a view behind the others, or in their place.
-fn keep(views: &mut Vec<View>, view: View, each: bool) -> Result<(), AllocError>
+impl Watched {
+    // Keeps what comes of the answer of this number, which a client took.
+    fn keep(
+        &mut self,
+        client: &Client<UnicodeWidths>,
+        number: usize,
+        taken: Taken,
+        each: bool,
+    ) -> Result<(), AllocError>
+        ensures { OnOk result (
+            KeepsAnswer each (shown_by client.now) number taken self.old self.new) }
+    {
+        match taken {
+            Taken::Shown => keep_view(&mut self.views, client, each),
+            Taken::Stale { at } => {
+                self.stale.push((number, at))?;
+                Ok(())
+            }
+        }
+    }
+}
+
+// Keeps what a client shows behind the other views, or in their place.
+fn keep_view(
+    views: &mut Vec<View>,
+    client: &Client<UnicodeWidths>,
+    each: bool,
+) -> Result<(), AllocError>
     ensures { OnOk result (
-        views.new.items ≡ (if each then views.old.items else []) ++ view ∷ []) }
+        KeepsOne each views.old.items (shown_by client.now) views.new.items) }
 {
+    let view = View {
+        source: client.source(),
+        number: client.number(),
+        screen: client.surface().full_screen()?,
+    };
     if !each {
         views.clear();
     }

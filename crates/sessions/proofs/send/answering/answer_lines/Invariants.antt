@@ -7,5 +7,5 @@ use Rattle.sessions.proofs.send.answering.answer_lines.Given as goal
 abbrev pub invariant-loop-piece : goal.invariant-loop-piece
 invariant-loop-piece g l = record {
   newline : split_byte l.piece-iterator ≡ 10;
-  so_far : IsSoFar l.options.source l.options.width l.options.height (g.B.Read.remaining l.fn.input) (g.O.Write.contents l.fn.out) (split_known_bytes g.B.Read.remaining l.piece-iterator) l.surface l.last (g.O.Write.contents l.out);
+  so_far : IsSoFar l.fn.options.source l.fn.options.width l.fn.options.height (g.B.Read.remaining l.fn.input) (g.O.Write.contents l.fn.out) (split_known_bytes g.B.Read.remaining l.piece-iterator) l.source l.last (g.O.Write.contents l.out);
 }

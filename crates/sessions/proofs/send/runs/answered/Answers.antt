@@ -5,6 +5,4 @@ pub returns-in-Event : goal.returns-in-Event
 returns-in-Event c = rw c.in-Event.is c.serve.ensures.does
 
 pub returns-in_ok-bytes-in-Ask : goal.returns-in_ok-bytes-in-Ask
-returns-in_ok-bytes-in-Ask c =
-    let (number, answered) = c.in_ok-bytes-in-Ask.ensures in
-    rw c.in-Ask.is (number, answered, refl, refl)
+returns-in_ok-bytes-in-Ask c = rw c.in-Ask.is (c.in_ok-bytes-in-Ask.ensures.answered, refl)

@@ -6,6 +6,6 @@ use Rattle.sessions.proofs.send.runs.sent.Given as goal
 -- the events so far are done, and any run goes on with the others
 abbrev pub invariant-loop-event : goal.invariant-loop-event
 invariant-loop-event l = record {
-  run : HasRun l.source l.width l.height l.fn.events.items (into_iter_items l.event-iterator) l.outcomes.items l.surface l.last;
+  run : HasRun l.number l.width l.height l.fn.events.items (into_iter_items l.event-iterator) l.outcomes.items l.source l.last;
   count : into_iter_len l.event-iterator ≡ length (into_iter_items l.event-iterator);
 }

@@ -1,11 +1,9 @@
 //! A workload that draws frames from parts, and compares each with the last one.
-use crate::drawn::{Pens, add_pen, add_text, blank, move_to};
+use crate::drawn::{Done, Pens, Screen, Start, Sum, add_pen, begun, print_at};
 use std::alloc::Global;
 use std::mem;
 use termwiz_cell::change::Change;
 use termwiz_cell::color::ColorAttribute;
-use termwiz_cell::emoji::UnicodeWidths;
-use termwiz_surface::surface::{Surface, SurfaceError};
 
 const TITLE: &str =
     "Three panels of eighteen lines each, below a title, and a line of state below...";
@@ -18,60 +16,39 @@ const STATE: &str = "ready, and each panel shows what it has ";
 
 const OTHER_STATE: &str = "DRAWN ANEW: A PANEL HAS TWO OTHER LINES.";
 
-pub fn framed(alloc: Global, pens: Pens, count: u32) -> Result<usize, SurfaceError> {
-    let mut shown = blank(alloc, 24)?;
-    let mut next = blank(alloc, 24)?;
-    frames(alloc, pens, &mut shown, &mut next, count)
-}
-
-// How many entries the diffs of so many frames have.
-fn frames(
-    alloc: Global,
-    pens: Pens,
-    shown: &mut Surface<UnicodeWidths>,
-    next: &mut Surface<UnicodeWidths>,
-    count: u32,
-) -> Result<usize, SurfaceError> {
+/// Draws frames so often. This is how many entries their diffs have.
+pub fn framed(alloc: Global, pens: Pens, count: u32) -> Sum {
+    let mut shown = begun(alloc, Start::Blank, None)?;
+    let mut next = begun(alloc, Start::Blank, None)?;
     let mut entries = 0usize;
     for frame in 0..count {
-        draw(alloc, pens, next, frame)?;
-        entries = entries.wrapping_add(shown.diff_screens(next)?.len());
+        draw(alloc, pens, &mut next, frame)?;
+        entries = entries.wrapping_add(shown.diff_screens(&next)?.len());
         next.flush_changes_older_than(next.current_seqno());
-        mem::swap(shown, next);
+        mem::swap(&mut shown, &mut next);
     }
     Ok(entries)
 }
 
 // A title, three panels and a line of state, which is another one each time.
-fn draw(
-    alloc: Global,
-    pens: Pens,
-    surface: &mut Surface<UnicodeWidths>,
-    frame: u32,
-) -> Result<(), SurfaceError> {
+fn draw(alloc: Global, pens: Pens, surface: &mut Screen, frame: u32) -> Done {
     surface.add_change(Change::ClearScreen(ColorAttribute::Default))?;
     add_pen(alloc, surface, pens, 3)?;
-    draw_line(alloc, surface, 0, 0, TITLE)?;
+    print_at(alloc, surface, 0, 0, TITLE)?;
     for panel in 0..3 {
         draw_panel(alloc, pens, surface, panel, frame)?;
     }
     let state = if frame % 2 == 0 { STATE } else { OTHER_STATE };
-    draw_line(alloc, surface, 0, 23, state)
+    print_at(alloc, surface, 0, 23, state)
 }
 
 // A panel of a colour of its own. In each frame one of them has two other lines.
-fn draw_panel(
-    alloc: Global,
-    pens: Pens,
-    surface: &mut Surface<UnicodeWidths>,
-    panel: u8,
-    frame: u32,
-) -> Result<(), SurfaceError> {
+fn draw_panel(alloc: Global, pens: Pens, surface: &mut Screen, panel: u8, frame: u32) -> Done {
     add_pen(alloc, surface, pens, panel)?;
     for line in 0..18 {
         let is_other = frame % 3 == u32::from(panel) && frame % 9 == line % 9;
         let text = if is_other { OTHER_LINE } else { LINE };
-        draw_line(
+        print_at(
             alloc,
             surface,
             27 * usize::from(panel),
@@ -80,16 +57,4 @@ fn draw_panel(
         )?;
     }
     Ok(())
-}
-
-#[inline(always)]
-fn draw_line(
-    alloc: Global,
-    surface: &mut Surface<UnicodeWidths>,
-    x: usize,
-    y: usize,
-    text: &str,
-) -> Result<(), SurfaceError> {
-    move_to(surface, x, y)?;
-    add_text(alloc, surface, text)
 }

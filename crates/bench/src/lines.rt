@@ -1,46 +1,72 @@
-//! Workloads on lines of so many columns.
+//! Workloads on lines of so many columns, and on attributes.
 ghost use Rattle.std.specs.Prelude.{◌≤◌};
 
+use crate::drawn::{Sum, sized};
 use std::alloc::{AllocError, Global};
 use termwiz_cell::cell::{Cell, CellAttributes};
 use termwiz_cell::change::SEQ_ZERO;
 use termwiz_cell::color::ColorAttribute;
 use termwiz_line::line::line::Line;
-use termwiz_surface::surface::SurfaceError;
 
-pub fn cloned(alloc: Global, columns: usize, count: u32) -> Result<usize, SurfaceError> {
-    let line = coloured(alloc, columns)?;
-    clones(&line, count)
+/// What is done over and over, as `workload` says.
+#[derive(Clone, Copy)]
+pub enum LineWork {
+    Clone,
+    Compress,
+    Walk,
+    Get,
+    Mark,
+    Prune,
+    Insert,
+    Append,
 }
 
-// How many columns so many clones have.
-fn clones(line: &Line, count: u32) -> Result<usize, SurfaceError> {
-    let mut columns = 0usize;
-    for _ in 0..count {
-        columns = columns.wrapping_add(line.clone()?.len());
+/// Works on a line so often that has a colour for every 8 columns. It is stored as one text, but
+/// for what copies it or inserts.
+pub fn worked(alloc: Global, work: LineWork, size: Option<u16>, count: u32) -> Sum {
+    let columns = sized(size, 120);
+    let mut line = coloured(alloc, columns)?;
+    if !matches!(
+        work,
+        LineWork::Clone | LineWork::Compress | LineWork::Insert
+    ) {
+        line.compress_for_scrollback()?;
     }
-    Ok(columns)
+    match work {
+        LineWork::Clone => clones(&line, false, count),
+        LineWork::Compress => clones(&line, true, count),
+        LineWork::Walk => Ok(widths(&line, count)),
+        LineWork::Get => Ok(widths_at(&line, columns.saturating_sub(1), count)),
+        LineWork::Mark => marks(&mut line, count),
+        LineWork::Prune => prune(&mut line, count),
+        LineWork::Insert => insert(&mut line, columns, count),
+        LineWork::Append => appended(alloc, columns, count),
+    }
 }
 
-pub fn compressed(alloc: Global, columns: usize, count: u32) -> Result<usize, SurfaceError> {
-    let line = coloured(alloc, columns)?;
-    compressions(&line, count)
+// A line whose cells have each a place of its own.
+fn coloured(alloc: Global, columns: usize) -> Result<Line, AllocError> {
+    let mut line = Line::with_width(alloc, columns, SEQ_ZERO)?;
+    for column in 0..columns {
+        let color = ColorAttribute::PaletteIndex((column / 8 % 256) as u8);
+        let mut attrs = CellAttributes::blank();
+        attrs.set_foreground(alloc, color)?;
+        line.set_cell_grapheme(column, "x", 1, attrs, SEQ_ZERO)?;
+    }
+    Ok(line)
 }
 
-// How many columns so many clones have that are stored as one text.
-fn compressions(line: &Line, count: u32) -> Result<usize, SurfaceError> {
+// How many columns so many clones have, which may be stored as one text then.
+fn clones(line: &Line, compresses: bool, count: u32) -> Sum {
     let mut columns = 0usize;
     for _ in 0..count {
         let mut copy = line.clone()?;
-        copy.compress_for_scrollback()?;
+        if compresses {
+            copy.compress_for_scrollback()?;
+        }
         columns = columns.wrapping_add(copy.len());
     }
     Ok(columns)
-}
-
-pub fn walked(alloc: Global, columns: usize, count: u32) -> Result<usize, SurfaceError> {
-    let line = clustered(alloc, columns)?;
-    Ok(widths(&line, count))
 }
 
 // The widths of the cells, which are walked over so often.
@@ -54,11 +80,6 @@ fn widths(line: &Line, count: u32) -> usize {
     columns
 }
 
-pub fn got(alloc: Global, columns: usize, count: u32) -> Result<usize, SurfaceError> {
-    let line = clustered(alloc, columns)?;
-    Ok(widths_at(&line, columns.saturating_sub(1), count))
-}
-
 // The width of the cell at a column, which is asked for so often.
 fn widths_at(line: &Line, column: usize, count: u32) -> usize {
     let mut columns = 0usize;
@@ -68,13 +89,8 @@ fn widths_at(line: &Line, column: usize, count: u32) -> usize {
     columns
 }
 
-pub fn marked(alloc: Global, columns: usize, count: u32) -> Result<usize, SurfaceError> {
-    let mut line = clustered(alloc, columns)?;
-    marks(&mut line, count)
-}
-
 // How often the line's text goes on, where its mark is set and taken away so often.
-fn marks(line: &mut Line, count: u32) -> Result<usize, SurfaceError> {
+fn marks(line: &mut Line, count: u32) -> Sum {
     let mut marks = 0usize;
     for round in 0..count {
         line.set_last_cell_was_wrapped(round % 2 == 0, SEQ_ZERO)?;
@@ -83,29 +99,17 @@ fn marks(line: &mut Line, count: u32) -> Result<usize, SurfaceError> {
     Ok(marks)
 }
 
-pub fn pruned(alloc: Global, columns: usize, count: u32) -> Result<usize, SurfaceError> {
-    let mut line = clustered(alloc, columns)?;
-    prune(&mut line, count)
-}
-
 // How many columns stay of a line that is pruned so often.
-fn prune(line: &mut Line, count: u32) -> Result<usize, SurfaceError> {
+fn prune(line: &mut Line, count: u32) -> Sum {
     for _ in 0..count {
         line.prune_trailing_blanks(SEQ_ZERO)?;
     }
     Ok(line.len())
 }
 
-pub fn inserted(alloc: Global, columns: usize, count: u32) -> Result<usize, SurfaceError>
-    requires { 1 ≤ columns }
-{
-    let mut line = coloured(alloc, columns)?;
-    insert(&mut line, columns, count)
-}
-
 // How many columns a line has where so many blanks are inserted at its beginning, and so many cells
 // removed at its end.
-fn insert(line: &mut Line, columns: usize, count: u32) -> Result<usize, SurfaceError>
+fn insert(line: &mut Line, columns: usize, count: u32) -> Sum
     requires { 1 ≤ columns }
 {
     for _ in 0..count {
@@ -114,7 +118,8 @@ fn insert(line: &mut Line, columns: usize, count: u32) -> Result<usize, SurfaceE
     Ok(line.len())
 }
 
-pub fn appended(alloc: Global, columns: usize, count: u32) -> Result<usize, SurfaceError> {
+// How many columns the lines have that were full, where so many characters are set one by one.
+fn appended(alloc: Global, columns: usize, count: u32) -> Sum {
     let mut line = Line::new(alloc, SEQ_ZERO);
     let mut appended = 0usize;
     for _ in 0..count {
@@ -122,38 +127,48 @@ pub fn appended(alloc: Global, columns: usize, count: u32) -> Result<usize, Surf
             appended = appended.wrapping_add(line.len());
             line = Line::new(alloc, SEQ_ZERO);
         }
-        append(&mut line)?;
+        let end = line.len();
+        line.set_cell_grapheme(end, "x", 1, CellAttributes::blank(), SEQ_ZERO)?;
     }
     Ok(appended)
 }
 
-#[inline(always)]
-fn append(line: &mut Line) -> Result<(), AllocError> {
-    let end = line.len();
-    line.set_cell_grapheme(end, "x", 1, CellAttributes::blank(), SEQ_ZERO)
-}
-
-// A line with a colour for every 8 columns, each cell in a place of its own.
-fn coloured(alloc: Global, columns: usize) -> Result<Line, AllocError> {
-    let mut line = Line::with_width(alloc, columns, SEQ_ZERO)?;
-    for column in 0..columns {
-        set_coloured(alloc, &mut line, column)?;
-    }
-    Ok(line)
-}
-
-fn set_coloured(alloc: Global, line: &mut Line, column: usize) -> Result<(), AllocError> {
+/// Sets an attribute so often. This is how often it is set then.
+pub fn attribute_set(count: u32) -> Sum {
     let mut attrs = CellAttributes::blank();
-    attrs.set_foreground(
-        alloc,
-        ColorAttribute::PaletteIndex((column / 8 % 256) as u8),
-    )?;
-    line.set_cell_grapheme(column, "x", 1, attrs, SEQ_ZERO)
+    let mut changed = 0usize;
+    for i in 0..count {
+        attrs.set_italic(i % 3 == 0);
+        if attrs.italic() {
+            changed = changed.wrapping_add(1);
+        }
+    }
+    Ok(changed)
 }
 
-// The same, stored as one text.
-fn clustered(alloc: Global, columns: usize) -> Result<Line, AllocError> {
-    let mut line = coloured(alloc, columns)?;
-    line.compress_for_scrollback()?;
-    Ok(line)
+pub fn attributes_cloned(count: u32) -> Sum {
+    let mut attrs = CellAttributes::blank();
+    for i in 0..count {
+        let copy = attrs.clone()?;
+        attrs = copy;
+        if i % 1024 == 0 {
+            attrs.set_italic(i % 3 == 0);
+        }
+    }
+    Ok(usize::from(attrs.italic()))
+}
+
+pub fn attributes_compared(count: u32) -> Sum {
+    let mut attrs = CellAttributes::blank();
+    let other = CellAttributes::blank();
+    let mut equal = 0usize;
+    for i in 0..count {
+        if i % 1024 == 0 {
+            attrs.set_italic(i % 3 == 0);
+        }
+        if attrs == other {
+            equal = equal.wrapping_add(1);
+        }
+    }
+    Ok(equal)
 }

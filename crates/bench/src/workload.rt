@@ -1,271 +1,197 @@
 //! What is measured, by its name.
-ghost use Rattle.std.specs.Prelude.{◌<◌, ◌^◌};
-
-use crate::drawn::Pens;
-use crate::{
-    answers, attributes, diffs, filled, frames, lines, printing, sent, shared, sizes, viewers,
-};
+use crate::asking::Make;
+use crate::drawn::{Pens, SHORT, Start, Sum};
+use crate::lines::LineWork;
+use crate::printing::{Draw, KANA, PLAIN, Print};
+use crate::shared::Feed;
+use crate::viewers::View;
+use crate::{asking, frames, lines, printing, shared, viewers};
 use std::alloc::Global;
-use termwiz_surface::surface::SurfaceError;
 
-/// A workload by its name.
+/// A workload: what it begins with, and what is done over and over.
 #[derive(Clone, Copy)]
-pub enum Workload {
-    /// A line of 80 characters on 80x24.
-    Plain,
-    /// The same with a colour for every 8 columns.
-    Colours(Pens),
-    /// All rows of an 80x24, with a colour for every 8 columns, where the log is flushed each time.
-    Fill(Pens),
-    /// A line of 40 kana.
-    Kana,
-    /// A short line at the bottom row, of 24 or SIZE.
-    Scroll,
-    /// The same, and a scroll of the first two rows.
-    ScrollTwo,
-    /// The same, where the log is flushed every 64 changes.
-    Log,
-    /// The same, where the log is flushed each time, and 8,000 changes are kept, or SIZE.
-    FlushBehind,
-    /// Lines of text on 200x50, in pieces of 4 KB, where the log is flushed each time.
-    Cat,
-    /// Lines of text on 200x50, with a colour for every 8 columns, as in `Cat`.
-    ColouredCat(Pens),
-    /// A clear of 80x24 to a true colour, where the log is flushed each time.
-    ClearColour,
-    /// A row of 80 columns, or SIZE, that ends in a wide character, whose last column is cleared,
-    /// and which is printed again.
-    EraseWide,
-    /// Ten changes that are due on 80x24, of 11 in the log, or SIZE.
-    Delta,
-    /// A repaint of a coloured 80x24.
-    Repaint(Pens),
-    /// A repaint of an 80x24 with a link for every 8 columns.
-    LinkedRepaint,
-    /// A repaint of a coloured 200x60.
-    LargeRepaint,
-    /// A repaint of a 200x60 full of text in one pen.
-    OnePen,
-    /// A diff of two 80x24 full of text that show the same.
-    DiffNone(Pens),
-    /// A diff of two that differ in each twentieth cell.
-    DiffSome(Pens),
-    /// A diff of two that differ in all cells.
-    DiffAll(Pens),
-    /// A frame of 80x24 that is drawn from parts, and a diff from the last one.
+pub enum Work {
+    Print(Start, Print),
+    Draw(Start, Draw),
+    /// So many of the last changes are asked for.
+    Ask(Start, usize),
+    Make(Make, Start),
+    /// A diff from an 80x24 full of text.
+    Diff(Pens, Start),
     Frame(Pens),
-    /// A viewer of an 80x24 that follows by a delta of one line, whose printing counts too.
-    FollowDelta,
-    /// The same, where both logs are flushed each time.
-    ViewerMemory,
-    /// A character on a coloured 80x24, which a viewer follows, and both logs are flushed.
-    TypeAndFollow,
-    /// A viewer of a coloured 80x24 that follows by a repaint.
-    FollowRepaint,
-    /// A viewer of a full surface of the same that follows by a repaint.
-    FollowFullRepaint,
-    /// An answer of ten changes that are due on 80x24, which are cloned.
-    AnswerDelta,
-    /// An answer that is a repaint of a coloured 80x24.
-    AnswerRepaint,
-    /// A viewer of an 80x24 that accepts a delta of one line, whose printing and answer count too.
-    AcceptDelta,
-    /// A line on 80x24 that a hundred viewers accept, each of which is answered.
+    View(Start, View),
     HundredViewers,
-    /// The encoding of an answer that is a repaint of a coloured 80x24, with room for it.
-    EncodeRepaint,
-    /// The decoding of such an answer.
-    DecodeRepaint,
-    /// `AcceptDelta`, where each answer is encoded and decoded on its way.
-    DeliverDelta,
-    /// A client that is fed the bytes of a repaint of a coloured 80x24, and shows it.
-    FeedRepaint,
-    /// The same, byte by byte.
-    FeedBytes,
-    /// A character on a coloured 80x24 that is a source, which responds, and a client is fed that.
-    TypeAndFeed,
-    /// A 200x60 that is made an 80x24 and a 200x60 again.
-    Resize,
-    /// A 200x60 that loses its last row and gets one again.
-    ResizeOneRow,
-    /// A step of a storm of sizes of a coloured 80x24, each by a column, and some by a row.
-    Storm,
-    /// A clone of a coloured 80x24.
-    SurfaceClone(Pens),
-    /// Making an 80x24.
-    New,
-    /// A clone of a line of 120 columns, or SIZE, with a colour for every 8, each cell in a place
-    /// of its own.
-    LineClone,
-    /// The same, stored as one text then.
-    Compress,
-    /// A walk over such a line that is stored as one text.
-    Walk,
-    /// The last cell of such a line, which is asked for by its column.
-    GetCell,
-    /// The mark of such a line that goes on, which is set or taken away, and asked for.
-    Mark,
-    /// The trailing blanks of such a line are pruned, of which it has none.
-    Prune,
-    /// A blank that is inserted at the beginning of the line that was cloned, whose last cell goes.
-    Insert,
-    /// A character that is set at the end of a line of up to 120 columns, or SIZE, stored as one
-    /// text.
-    Append,
-    /// A setter of an attribute.
+    Encode,
+    Decode,
+    Feed(Feed),
+    Line(LineWork),
     Setter,
-    /// A clone of plain attributes.
     Clone,
-    /// A comparison of attributes.
     Equality,
 }
 
-static NAMES: [(&str, Workload); 64] = [
-    ("plain", Workload::Plain),
-    ("colours", Workload::Colours(Pens::Ten)),
-    ("true-line", Workload::Colours(Pens::TenTrue)),
-    ("fill", Workload::Fill(Pens::Ten)),
-    ("true-fill", Workload::Fill(Pens::TenTrue)),
-    ("kana", Workload::Kana),
-    ("scroll", Workload::Scroll),
-    ("scroll-two", Workload::ScrollTwo),
-    ("log", Workload::Log),
-    ("flush-behind", Workload::FlushBehind),
-    ("cat", Workload::Cat),
-    ("coloured-cat", Workload::ColouredCat(Pens::Ten)),
-    ("true-cat", Workload::ColouredCat(Pens::TenTrue)),
-    ("clear-colour", Workload::ClearColour),
-    ("erase-wide", Workload::EraseWide),
-    ("delta", Workload::Delta),
-    ("repaint", Workload::Repaint(Pens::Ten)),
-    ("true-repaint", Workload::Repaint(Pens::TenTrue)),
-    ("linked-repaint", Workload::LinkedRepaint),
-    ("large-repaint", Workload::LargeRepaint),
-    ("one-pen", Workload::OnePen),
-    ("diff-0", Workload::DiffNone(Pens::Ten)),
-    ("diff-5", Workload::DiffSome(Pens::Ten)),
-    ("diff-100", Workload::DiffAll(Pens::Ten)),
-    ("plain-diff-0", Workload::DiffNone(Pens::One)),
-    ("plain-diff-5", Workload::DiffSome(Pens::One)),
-    ("plain-diff-100", Workload::DiffAll(Pens::One)),
-    ("true-diff-0", Workload::DiffNone(Pens::TenTrue)),
-    ("true-diff-5", Workload::DiffSome(Pens::TenTrue)),
-    ("true-diff-100", Workload::DiffAll(Pens::TenTrue)),
-    ("frame", Workload::Frame(Pens::Ten)),
-    ("true-frame", Workload::Frame(Pens::TenTrue)),
-    ("follow-delta", Workload::FollowDelta),
-    ("viewer-memory", Workload::ViewerMemory),
-    ("type-and-follow", Workload::TypeAndFollow),
-    ("follow-repaint", Workload::FollowRepaint),
-    ("follow-full-repaint", Workload::FollowFullRepaint),
-    ("answer-delta", Workload::AnswerDelta),
-    ("answer-repaint", Workload::AnswerRepaint),
-    ("accept-delta", Workload::AcceptDelta),
-    ("hundred-viewers", Workload::HundredViewers),
-    ("encode-repaint", Workload::EncodeRepaint),
-    ("decode-repaint", Workload::DecodeRepaint),
-    ("deliver-delta", Workload::DeliverDelta),
-    ("feed-repaint", Workload::FeedRepaint),
-    ("feed-bytes", Workload::FeedBytes),
-    ("type-and-feed", Workload::TypeAndFeed),
-    ("resize", Workload::Resize),
-    ("resize-one-row", Workload::ResizeOneRow),
-    ("storm", Workload::Storm),
-    ("surface-clone", Workload::SurfaceClone(Pens::Ten)),
-    ("true-clone", Workload::SurfaceClone(Pens::TenTrue)),
-    ("new", Workload::New),
-    ("line-clone", Workload::LineClone),
-    ("compress", Workload::Compress),
-    ("walk", Workload::Walk),
-    ("get-cell", Workload::GetCell),
-    ("mark", Workload::Mark),
-    ("prune", Workload::Prune),
-    ("insert", Workload::Insert),
-    ("append", Workload::Append),
-    ("setter", Workload::Setter),
-    ("clone", Workload::Clone),
-    ("equality", Workload::Equality),
+const ONE: Pens = Pens::One;
+
+const TEN: Pens = Pens::Ten;
+
+const TRUE: Pens = Pens::TenTrue;
+
+const TEXT: Start = Start::Text(TEN);
+
+// More changes than there are, so that a repaint is asked for.
+const ALL: usize = usize::MAX;
+
+static NAMES: [(&str, Work); 64] = [
+    // A line of 80 characters on 80x24.
+    ("plain", Work::Print(Start::Blank, Print::Line(PLAIN))),
+    // The same with a colour for every 8 columns.
+    ("colours", Work::Draw(Start::Blank, Draw::Colours(TEN))),
+    ("true-line", Work::Draw(Start::Blank, Draw::Colours(TRUE))),
+    // All rows of an 80x24, with a colour for every 8 columns, where the log is flushed each time.
+    ("fill", Work::Draw(Start::Blank, Draw::Fill(TEN))),
+    ("true-fill", Work::Draw(Start::Blank, Draw::Fill(TRUE))),
+    // A line of 40 kana.
+    ("kana", Work::Print(Start::Blank, Print::Line(KANA))),
+    // A short line at the bottom row, of 24 or SIZE.
+    ("scroll", Work::Print(Start::Rows, Print::Line(SHORT))),
+    // The same, and a scroll of the first two rows.
+    ("scroll-two", Work::Draw(Start::FilledRows, Draw::ScrollTwo)),
+    // `scroll` on 80x24, where the log is flushed every 64 changes.
+    ("log", Work::Print(Start::Blank, Print::Logged)),
+    // The same, where the log is flushed each time, and 8,000 changes are kept, or SIZE.
+    ("flush-behind", Work::Print(Start::Log(8000), Print::Behind)),
+    // Lines of text on 200x50, in pieces of 4 KB, where the log is flushed each time.
+    ("cat", Work::Print(Start::Page, Print::Piece)),
+    // The same with a colour for every 8 columns.
+    ("coloured-cat", Work::Draw(Start::Page, Draw::Pipe(TEN))),
+    ("true-cat", Work::Draw(Start::Page, Draw::Pipe(TRUE))),
+    // A clear of 80x24 to a true colour, where the log is flushed each time.
+    ("clear-colour", Work::Draw(Start::Blank, Draw::Clear)),
+    // A wide character at the end of a row of 80 columns, or SIZE: the last column is cleared, and
+    // it is printed again.
+    ("erase-wide", Work::Draw(Start::WideRow, Draw::EraseWide)),
+    // Ten changes that are due on 80x24, of 11 in the log, or SIZE.
+    ("delta", Work::Ask(Start::Log(11), 10)),
+    // A repaint of a coloured 80x24.
+    ("repaint", Work::Ask(TEXT, ALL)),
+    ("true-repaint", Work::Ask(Start::Text(TRUE), ALL)),
+    // A repaint of an 80x24 with a link for every 8 columns.
+    ("linked-repaint", Work::Ask(Start::Links, ALL)),
+    // A repaint of a coloured 200x60.
+    ("large-repaint", Work::Ask(Start::LargeText(TEN), ALL)),
+    // A repaint of a 200x60 full of text in one pen.
+    ("one-pen", Work::Ask(Start::LargeText(ONE), ALL)),
+    // A diff of two 80x24 full of text that show the same, or differ in each 20th cell, or in all.
+    ("diff-0", Work::Diff(TEN, TEXT)),
+    ("diff-5", Work::Diff(TEN, Start::Speckled(TEN))),
+    ("diff-100", Work::Diff(TEN, Start::OtherText(TEN))),
+    ("plain-diff-0", Work::Diff(ONE, Start::Text(ONE))),
+    ("plain-diff-5", Work::Diff(ONE, Start::Speckled(ONE))),
+    ("plain-diff-100", Work::Diff(ONE, Start::OtherText(ONE))),
+    ("true-diff-0", Work::Diff(TRUE, Start::Text(TRUE))),
+    ("true-diff-5", Work::Diff(TRUE, Start::Speckled(TRUE))),
+    ("true-diff-100", Work::Diff(TRUE, Start::OtherText(TRUE))),
+    // A frame of 80x24 that is drawn from parts, and a diff from the last one.
+    ("frame", Work::Frame(TEN)),
+    ("true-frame", Work::Frame(TRUE)),
+    // A viewer of an 80x24 that follows by a delta of one line, whose printing counts too.
+    ("follow-delta", Work::View(Start::Blank, View::Follow)),
+    // The same, where both logs are flushed each time.
+    ("viewer-memory", Work::View(Start::Blank, View::Refresh)),
+    // A character on a coloured 80x24, which a viewer follows, and both logs are flushed.
+    ("type-and-follow", Work::View(TEXT, View::Type)),
+    // A viewer of a coloured 80x24 that follows by a repaint.
+    ("follow-repaint", Work::View(TEXT, View::Repaint)),
+    // A viewer of a full surface of the same that follows by a repaint.
+    (
+        "follow-full-repaint",
+        Work::View(Start::FullText, View::Repaint),
+    ),
+    // An answer of ten changes that are due on 80x24, which are cloned.
+    ("answer-delta", Work::Make(Make::Answer(1), Start::Log(11))),
+    // An answer that is a repaint of a coloured 80x24.
+    ("answer-repaint", Work::Make(Make::Answer(0), TEXT)),
+    // A viewer of an 80x24 that accepts a delta of one line, whose printing and answer count too.
+    ("accept-delta", Work::View(Start::Blank, View::Accept)),
+    // A line on 80x24 that a hundred viewers accept, each of which is answered.
+    ("hundred-viewers", Work::HundredViewers),
+    // The encoding of an answer that is a repaint of a coloured 80x24, with room for it.
+    ("encode-repaint", Work::Encode),
+    // The decoding of such an answer.
+    ("decode-repaint", Work::Decode),
+    // `accept-delta`, where each answer is encoded and decoded on its way.
+    ("deliver-delta", Work::View(Start::Blank, View::Deliver)),
+    // A client that is fed the bytes of a repaint of a coloured 80x24, and shows it.
+    ("feed-repaint", Work::Feed(Feed::Repaint)),
+    // The same, byte by byte.
+    ("feed-bytes", Work::Feed(Feed::Bytes)),
+    // A character on a coloured 80x24 that is a source, which responds, and a client is fed that.
+    ("type-and-feed", Work::Feed(Feed::Typed)),
+    // A 200x60 that is made an 80x24 and a 200x60 again.
+    ("resize", Work::Draw(Start::LargeText(TEN), Draw::Resize)),
+    // A 200x60 that loses its last row and gets one again.
+    (
+        "resize-one-row",
+        Work::Draw(Start::LargeText(TEN), Draw::ResizeOneRow),
+    ),
+    // A step of a storm of sizes of a coloured 80x24, each by a column, and some by a row.
+    ("storm", Work::Draw(TEXT, Draw::Storm)),
+    // A clone of a coloured 80x24.
+    ("surface-clone", Work::Make(Make::Clone, TEXT)),
+    ("true-clone", Work::Make(Make::Clone, Start::Text(TRUE))),
+    // Making an 80x24.
+    ("new", Work::Make(Make::New, Start::Blank)),
+    // A clone of a line of 120 columns, or SIZE, with a colour for every 8, each cell by itself.
+    ("line-clone", Work::Line(LineWork::Clone)),
+    // The same, stored as one text then.
+    ("compress", Work::Line(LineWork::Compress)),
+    // A walk over such a line that is stored as one text.
+    ("walk", Work::Line(LineWork::Walk)),
+    // The last cell of such a line, which is asked for by its column.
+    ("get-cell", Work::Line(LineWork::Get)),
+    // The mark of such a line that goes on, which is set or taken away, and asked for.
+    ("mark", Work::Line(LineWork::Mark)),
+    // The trailing blanks of such a line are pruned, of which it has none.
+    ("prune", Work::Line(LineWork::Prune)),
+    // A blank that is inserted at the beginning of the line that was cloned, whose last cell goes.
+    ("insert", Work::Line(LineWork::Insert)),
+    // A character that is set at the end of a line of up to 120 columns, or SIZE, stored as text.
+    ("append", Work::Line(LineWork::Append)),
+    // A setter of an attribute, a clone of plain attributes, and a comparison of attributes.
+    ("setter", Work::Setter),
+    ("clone", Work::Clone),
+    ("equality", Work::Equality),
 ];
 
-impl Workload {
-    pub fn from_name(name: &str) -> Option<Workload> {
-        for (own, workload) in &NAMES {
+impl Work {
+    pub fn from_name(name: &str) -> Option<Work> {
+        for (own, work) in &NAMES {
             if *own == name {
-                return Some(*workload);
+                return Some(*work);
             }
         }
         None
     }
 }
 
-// The size that is given, or the usual one. A line or a surface has two columns or rows at least.
-fn given(size: Option<u16>, usual: u16) -> usize
-    ensures some { 1 < result }
-    ensures fits { result < 2 ^ 32 }
-{
-    usize::from(size.unwrap_or(usual)).max(2)
-}
-
 /// Runs the workload so often, and gives a sum that depends on what was done. Where its object can
 /// have another size, that may be given.
-pub fn run(
-    alloc: Global,
-    workload: Workload,
-    count: u32,
-    size: Option<u16>,
-) -> Result<usize, SurfaceError> {
-    match workload {
-        Workload::Plain => printing::plain(alloc, count),
-        Workload::Colours(pens) => printing::coloured(alloc, pens, count),
-        Workload::Fill(pens) => filled::filled(alloc, pens, count),
-        Workload::Kana => printing::kana(alloc, count),
-        Workload::Scroll => printing::scrolled(alloc, given(size, 24), count),
-        Workload::ScrollTwo => printing::scrolled_in_two(alloc, given(size, 24), count),
-        Workload::Log => printing::flushed(alloc, count),
-        Workload::FlushBehind => printing::flushed_behind(alloc, given(size, 8_000), count),
-        Workload::Cat => printing::piped(alloc, count),
-        Workload::ColouredCat(pens) => filled::piped(alloc, pens, count),
-        Workload::ClearColour => filled::cleared(alloc, count),
-        Workload::EraseWide => printing::erased_wide(alloc, given(size, 80), count),
-        Workload::Delta => viewers::due(alloc, given(size, 11), count),
-        Workload::Repaint(pens) => viewers::repainted(alloc, pens, 80, 24, count),
-        Workload::LinkedRepaint => viewers::repainted_links(alloc, count),
-        Workload::LargeRepaint => viewers::repainted(alloc, Pens::Ten, 200, 60, count),
-        Workload::OnePen => viewers::one_pen(alloc, count),
-        Workload::DiffNone(pens) => diffs::none(alloc, pens, count),
-        Workload::DiffSome(pens) => diffs::some(alloc, pens, count),
-        Workload::DiffAll(pens) => diffs::all(alloc, pens, count),
-        Workload::Frame(pens) => frames::framed(alloc, pens, count),
-        Workload::FollowDelta => viewers::followed_by_deltas(alloc, count),
-        Workload::ViewerMemory => viewers::refreshed(alloc, count),
-        Workload::TypeAndFollow => viewers::typed(alloc, count),
-        Workload::FollowRepaint => viewers::followed_by_repaints(alloc, count),
-        Workload::FollowFullRepaint => viewers::followed_by_full_repaints(alloc, count),
-        Workload::AnswerDelta => answers::due(alloc, count),
-        Workload::AnswerRepaint => answers::repainted(alloc, count),
-        Workload::AcceptDelta => answers::accepted(alloc, count),
-        Workload::HundredViewers => answers::accepted_by_hundred(alloc, count),
-        Workload::EncodeRepaint => sent::encoded(alloc, count),
-        Workload::DecodeRepaint => sent::decoded(alloc, count),
-        Workload::DeliverDelta => sent::delivered(alloc, count),
-        Workload::FeedRepaint => shared::fed_repaints(alloc, count),
-        Workload::FeedBytes => shared::fed_bytes(alloc, count),
-        Workload::TypeAndFeed => shared::typed(alloc, count),
-        Workload::Resize => sizes::resized(alloc, count),
-        Workload::ResizeOneRow => sizes::resized_by_a_row(alloc, count),
-        Workload::Storm => sizes::stormed(alloc, count),
-        Workload::SurfaceClone(pens) => sizes::cloned(alloc, pens, count),
-        Workload::New => sizes::made(alloc, count),
-        Workload::LineClone => lines::cloned(alloc, given(size, 120), count),
-        Workload::Compress => lines::compressed(alloc, given(size, 120), count),
-        Workload::Walk => lines::walked(alloc, given(size, 120), count),
-        Workload::GetCell => lines::got(alloc, given(size, 120), count),
-        Workload::Mark => lines::marked(alloc, given(size, 120), count),
-        Workload::Prune => lines::pruned(alloc, given(size, 120), count),
-        Workload::Insert => lines::inserted(alloc, given(size, 120), count),
-        Workload::Append => lines::appended(alloc, given(size, 120), count),
-        Workload::Setter => attributes::set(count),
-        Workload::Clone => attributes::cloned(count),
-        Workload::Equality => attributes::compared(count),
+pub fn run(alloc: Global, work: Work, size: Option<u16>, count: u32) -> Sum {
+    match work {
+        Work::Print(start, print) => printing::printed(alloc, start, print, size, count),
+        Work::Draw(start, draw) => printing::drawn(alloc, start, draw, size, count),
+        Work::Ask(start, due) => asking::asked(alloc, start, due, size, count),
+        Work::Make(make, start) => asking::made(alloc, make, start, Start::Blank, count),
+        Work::Diff(pens, to) => asking::made(alloc, Make::Diff, Start::Text(pens), to, count),
+        Work::Frame(pens) => frames::framed(alloc, pens, count),
+        Work::View(start, view) => viewers::viewed(alloc, start, view, count),
+        Work::HundredViewers => viewers::viewed_by_hundred(alloc, count),
+        Work::Encode => asking::coded(alloc, false, count),
+        Work::Decode => asking::coded(alloc, true, count),
+        Work::Feed(feed) => shared::fed(alloc, feed, count),
+        Work::Line(work) => lines::worked(alloc, work, size, count),
+        Work::Setter => lines::attribute_set(count),
+        Work::Clone => lines::attributes_cloned(count),
+        Work::Equality => lines::attributes_compared(count),
     }
 }

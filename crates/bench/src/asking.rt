@@ -1,0 +1,94 @@
+//! Workloads that only read a surface: they ask what changed, compare, copy or send it.
+use crate::drawn::{Pens, Screen, Start, Sum, begun};
+use std::alloc::{AllocError, Global};
+use termwiz_cell::change::SequenceNo;
+use termwiz_cell::emoji::UnicodeWidths;
+use termwiz_surface::surface::{Answer, Surface, SurfaceError};
+use termwiz_wire::{Limits, SentAnswer, decode_answer, encode_answer, encoded_len};
+
+// The source that answers name.
+const SOURCE: usize = 1;
+
+/// What is made over and over, as `workload` says.
+#[derive(Clone, Copy)]
+pub enum Make {
+    Answer(SequenceNo),
+    Diff,
+    Clone,
+    New,
+}
+
+/// Asks so often for so many of the last changes. This is how many entries the replies have.
+pub fn asked(alloc: Global, start: Start, due: usize, size: Option<u16>, count: u32) -> Sum {
+    let surface = begun(alloc, start, size)?;
+    let seq = surface.current_seqno().saturating_sub(due);
+    let mut entries = 0usize;
+    for _ in 0..count {
+        let (_, changes) = surface.get_changes(seq)?;
+        entries = entries.wrapping_add(changes.as_slice().len());
+    }
+    Ok(entries)
+}
+
+/// Makes one of these so often. This is how many changes or columns they have.
+pub fn made(alloc: Global, make: Make, from: Start, to: Start, count: u32) -> Sum {
+    let mut surface = begun(alloc, from, None)?;
+    let other = begun(alloc, to, None)?;
+    if matches!(make, Make::Clone) {
+        surface.flush_changes_older_than(surface.current_seqno());
+    }
+    let mut sum = 0usize;
+    for _ in 0..count {
+        sum = sum.wrapping_add(len_of(alloc, make, &surface, &other)?);
+    }
+    Ok(sum)
+}
+
+#[inline(always)]
+fn len_of(alloc: Global, make: Make, surface: &Screen, other: &Screen) -> Sum {
+    match make {
+        Make::Answer(seq) => Ok(surface.answer(seq)?.changes().len()),
+        Make::Diff => Ok(surface.diff_screens(other)?.len()),
+        Make::Clone => {
+            let (width, _) = surface.clone()?.dimensions();
+            Ok(width)
+        }
+        Make::New => {
+            let (width, _) = Surface::new(alloc, 80, 24, UnicodeWidths)?.dimensions();
+            Ok(width)
+        }
+    }
+}
+
+/// Encodes or decodes an answer that is a repaint. This is how many bytes or changes there are.
+pub fn coded(alloc: Global, decodes: bool, count: u32) -> Sum {
+    let surface = begun(alloc, Start::Text(Pens::Ten), None)?;
+    let answer = surface.answer(0)?;
+    let bytes = bytes_of(alloc, &answer)?;
+    let mut sum = 0usize;
+    for _ in 0..count {
+        let len = if decodes {
+            answer_of(alloc, bytes.as_slice())?.answer.changes().len()
+        } else {
+            bytes_of(alloc, &answer)?.len()
+        };
+        sum = sum.wrapping_add(len);
+    }
+    Ok(sum)
+}
+
+/// The bytes of an answer, for which room is taken once.
+pub fn bytes_of(alloc: Global, answer: &Answer) -> Result<Vec<u8>, AllocError> {
+    let len = encoded_len(&UnicodeWidths, SOURCE, answer);
+    let mut bytes = Vec::with_capacity(alloc, len)?;
+    encode_answer(&mut bytes, &UnicodeWidths, SOURCE, answer)?;
+    Ok(bytes)
+}
+
+/// The answer of such bytes.
+pub fn answer_of(alloc: Global, bytes: &[u8]) -> Result<SentAnswer, SurfaceError> {
+    match decode_answer(alloc, &UnicodeWidths, Limits::default(), bytes) {
+        Ok((sent, _)) => Ok(sent),
+        Err(_) => Err(SurfaceError::Memory),
+    }
+}

@@ -1,7 +1,8 @@
 #!/usr/bin/env python3
 """Plays transcripts of `surfview`, `surfsend` and `surfwatch`.
 
-    tools/programs.py FILE ..     plays these, and says how many runs agree
+    tools/programs.py FILE ..             plays these, and says how many runs agree
+    tools/programs.py --recorded FILE ..  plays the scripts of that file too
 
 A transcript has cases. A line `case TITLE` begins one, and empty lines and those that begin with
 `#` say nothing. The others are
@@ -20,6 +21,9 @@ A transcript has cases. A line `case TITLE` begins one, and empty lines and thos
 
 and `bad [TEXT]` is a run of `surfview 4 3` of three lines, `show`, the text and `fly`, which has to
 refuse the second.
+
+Recorded scripts are cases `case WIDTH HEIGHT`, the lines of a script for `surfview`, each behind
+`> `, and the lines of what it has to print, each behind `< `.
 
 The programs are those that `rt ci` or `rt run` has built, each as both compilers make it, where
 both are there; runs that fail or count writes are of LLVM's alone, which the shim is loaded
@@ -120,6 +124,20 @@ def runs_of(path):
     return runs
 
 
+def recorded_runs_of(path):
+    """Returns the runs of a file of recorded scripts."""
+    runs = []
+    for number, line in enumerate(path.read_bytes().split(b"\n"), 1):
+        if line.startswith(b"case "):
+            size = line[5:].decode().split()
+            runs.append(Run(["surfview", *size], number, "recorded"))
+        elif line.startswith(b"> "):
+            runs[-1].given += line[2:] + b"\n"
+        elif line:
+            runs[-1].add(line)
+    return runs
+
+
 def differs(run, ending, shim):
     """Returns what a run prints otherwise than it has to, if it does."""
     wanted = run.out, run.errors, run.status, run.writes
@@ -133,9 +151,8 @@ def differs(run, ending, shim):
     return "\n  ".join(told)
 
 
-def play(path, shim):
-    """Plays a file, and returns how many runs agree and how many don't."""
-    runs = runs_of(path)
+def play(path, runs, shim):
+    """Plays the runs of a file, and returns how many agree and how many don't."""
     agreeing = failing = 0
     for ending in ENDINGS:
         for run in runs:
@@ -154,9 +171,12 @@ def main():
     parser = argparse.ArgumentParser(description=__doc__,
                                      formatter_class=argparse.RawDescriptionHelpFormatter)
     parser.add_argument("--shim", type=Path, help="tools/shim.c, built")
-    parser.add_argument("files", type=Path, nargs="+")
+    parser.add_argument("--recorded", type=Path, help="a file of recorded scripts")
+    parser.add_argument("files", type=Path, nargs="*")
     given = parser.parse_args()
-    played = [play(it, given.shim) for it in given.files]
+    played = [play(it, runs_of(it), given.shim) for it in given.files]
+    if given.recorded:
+        played.append(play(given.recorded, recorded_runs_of(given.recorded), given.shim))
     print(f"{sum(it[0] for it in played)} passed, {sum(it[1] for it in played)} failed")
     sys.exit(any(it[1] for it in played))
 

@@ -1,4 +1,4 @@
-//! What termwiz 0.23.3 itself answered to random scripts, which `crates/cases_session/data` has:
+//! What termwiz 0.23.3 itself answered to random scripts, which `cases/recorded` has:
 //! the crate shows the same rows and cursors, and termwiz's repaints draw what it shows.
 
 use std::str::{Lines, SplitWhitespace};
@@ -10,7 +10,7 @@ use tikeburo::{
 
 const SCRIPTS: &str = concat!(
     env!("CARGO_MANIFEST_DIR"),
-    "/../../crates/cases_session/data/surfaces.txt"
+    "/../../cases/recorded/surfaces.txt"
 );
 
 fn number<T: std::str::FromStr<Err = std::num::ParseIntError>>(word: &str) -> T {

@@ -19,6 +19,3 @@ pub use kind::Kind;
 pub use len::{array_len, signed_len, text_len, unsigned_len};
 pub use more_bytes::{beginnings, decided};
 pub use reader::{Reader, kinds};
-
-#[cfg(test)]
-mod tests;

@@ -1,0 +1,139 @@
+//! Transcripts: lines that are played one by one, and printed again with their answers.
+use crate::error::PlayError;
+use std::alloc::Global;
+use std::io::{self, Write};
+
+/// What answers the lines of cases.
+pub trait Play {
+    /// Plays a line, and returns the lines of its answer.
+    fn line(&mut self, line: &str) -> Result<String, PlayError>;
+
+    /// Returns the lines of the answer to a whole recorded case, if it has one.
+    fn end(&mut self) -> Result<Option<String>, PlayError> {
+        Ok(None)
+    }
+}
+
+/// Plays the transcript on standard input, and prints each of its lines again with its answer
+/// below it, two spaces in. The answers of the transcript, blank lines, and comments, which begin
+/// with `#`, aren't played. A transcript that holds is printed as it is.
+///
+/// A line to which memory is refused is played once more, and is answered by `refused` where it is
+/// refused memory again. Where the line above it is a question that begins with `? `, that is
+/// asked again first; unless its answer is as it was, the play fails with `Differs`.
+///
+/// Fails at the first line that can't be played, which is printed last with the error below it.
+pub fn play_input<P: Play>(rt: &HostRuntime, play: &mut P) -> Result<(), PlayError> {
+    let script = io::read_to_string(rt.alloc(), rt.stdin()).map_err(|_| PlayError::Io)?;
+    let mut printed = String::new(rt.alloc());
+    let mut above = Above::new(rt.alloc());
+    let played = play_lines(script.as_str(), &mut above, play, &mut printed);
+    rt.stdout()
+        .write_all(printed.as_bytes())
+        .map_err(|_| PlayError::Io)?;
+    played
+}
+
+fn play_lines<'a, P: Play>(
+    script: &'a str,
+    above: &mut Above<'a>,
+    play: &mut P,
+    printed: &mut String,
+) -> Result<(), PlayError> {
+    for line in script.lines() {
+        if !line.starts_with("  ") {
+            push_line(printed, "", line)?;
+            play_line(line, above, play, printed)?;
+        }
+    }
+    Ok(())
+}
+
+fn play_line<'a, P: Play>(
+    line: &'a str,
+    above: &mut Above<'a>,
+    play: &mut P,
+    printed: &mut String,
+) -> Result<(), PlayError> {
+    if line.is_empty() || line.starts_with('#') {
+        return Ok(());
+    }
+    match above.answered(line, play) {
+        Ok(answer) => {
+            push_lines(printed, "  ", answer.as_str())?;
+            above.keep(line, answer);
+            Ok(())
+        }
+        Err(error) => {
+            writeln!(printed, "  {error:?}")?;
+            Err(error)
+        }
+    }
+}
+
+/// The line above, if it is a question that is asked again, and its answer.
+#[derive(Drop)]
+struct Above<'a> {
+    alloc: Global,
+    question: Option<&'a str>,
+    answer: String,
+}
+
+impl<'a> Above<'a> {
+    fn new(alloc: Global) -> Above<'a> {
+        Above {
+            alloc,
+            question: None,
+            answer: String::new(alloc),
+        }
+    }
+
+    fn keep(&mut self, line: &'a str, answer: String) {
+        self.question = line.strip_prefix("? ");
+        self.answer = answer;
+    }
+
+    fn answered<P: Play>(&self, line: &str, play: &mut P) -> Result<String, PlayError> {
+        let line = line.strip_prefix("? ").unwrap_or(line);
+        match play.line(line) {
+            Err(PlayError::Memory) => self.answered_again(line, play),
+            answered => answered,
+        }
+    }
+
+    fn answered_again<P: Play>(&self, line: &str, play: &mut P) -> Result<String, PlayError> {
+        self.ask(play)?;
+        match play.line(line) {
+            Err(PlayError::Memory) => Ok("refused".to_owned(self.alloc)?),
+            answered => answered,
+        }
+    }
+
+    // Fails unless the question above is answered as it was.
+    fn ask<P: Play>(&self, play: &mut P) -> Result<(), PlayError> {
+        let Some(question) = self.question else {
+            return Ok(());
+        };
+        let answer = play.line(question)?;
+        if answer.as_str() == self.answer.as_str() {
+            Ok(())
+        } else {
+            Err(PlayError::Differs)
+        }
+    }
+}
+
+/// Adds each line behind a mark.
+pub fn push_lines(printed: &mut String, mark: &str, lines: &str) -> Result<(), PlayError> {
+    for line in lines.lines() {
+        push_line(printed, mark, line)?;
+    }
+    Ok(())
+}
+
+fn push_line(printed: &mut String, mark: &str, line: &str) -> Result<(), PlayError> {
+    printed.push_str(mark)?;
+    printed.push_str(line)?;
+    printed.push('\n')?;
+    Ok(())
+}

@@ -131,11 +131,11 @@ def run(file, command):
 
 def table(file, seconds):
     with open(file, encoding="utf-8") as it:
-        told = json.load(it)
+        taken = json.load(it)
     minutes = lambda seconds: f"{seconds / 60:.1f}"
     rows = [(crate, *(minutes(parts[it]) for it in PARTS), minutes(sum(parts.values())))
-            for crate, parts in told["crates"].items()]
-    sums = [sum(parts[it] for parts in told["crates"].values()) for it in PARTS]
+            for crate, parts in taken["crates"].items()]
+    sums = [sum(parts[it] for parts in taken["crates"].values()) for it in PARTS]
     rows.append(("all crates", *map(minutes, sums), minutes(sum(sums))))
     rows.append(("the rest", *[""] * len(PARTS), minutes(max(seconds - sum(sums), 0))))
     rows.append(("in all", *[""] * len(PARTS), minutes(max(seconds, sum(sums)))))
@@ -143,7 +143,7 @@ def table(file, seconds):
     print(f"|{'|'.join(heads)}|\n|---{'|--:' * (len(heads) - 1)}|")
     for row in rows:
         print(f"|{'|'.join(row)}|")
-    print(f"`rt ci` took {minutes(told['clock'])} minutes by the clock.")
+    print(f"`rt ci` took {minutes(taken['clock'])} minutes by the clock.")
 
 
 def main(words):

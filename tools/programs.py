@@ -146,9 +146,9 @@ def differs(run, ending, shim):
     except subprocess.TimeoutExpired:
         return "it takes too long"
     names = "output", "error output", "status", "writes"
-    told = [f"{name}: wanted {one!r}, found {other!r}"
+    differing = [f"{name}: wanted {one!r}, found {other!r}"
             for name, one, other in zip(names, wanted, found) if one != other]
-    return "\n  ".join(told)
+    return "\n  ".join(differing)
 
 
 def play(path, runs, shim):

@@ -8,7 +8,7 @@
 //!
 //!     player             plays standard input, and then the recorded answers of `data/`
 //!     player play        plays standard input alone
-//!     player compressed  the same, with each line compressed behind each call on it
+//!     player compressed  plays it with each line compressed after each call on it
 //!
 //! Where memory is refused to a line, it is played once more: see `play`.
 #![tactic(auto)]

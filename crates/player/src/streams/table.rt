@@ -176,7 +176,7 @@ impl Table {
         let part = part.first().copied().unwrap_or("all");
         let text = String::with_capacity(self.alloc, 32)?;
         let taken = self.watcher(client)?.give(how, part)?;
-        told(text, taken)
+        with_result(text, taken)
     }
 
     // How many answers of the last response were stale, and how many screens the others made.
@@ -188,7 +188,7 @@ impl Table {
             watcher.response.as_slice(),
             &mut screens,
         );
-        let mut shown = told(String::new(self.alloc), stale)?;
+        let mut shown = with_result(String::new(self.alloc), stale)?;
         write!(shown, " stale, {} shown", screens.len())?;
         Ok(shown)
     }
@@ -197,7 +197,7 @@ impl Table {
     fn pass(&mut self, from: &str, client: &str) -> Result<String, PlayError> {
         let response = self.watcher(from)?.response.clone()?;
         let passed = pass_on(&mut self.watcher(client)?.client, response.as_slice());
-        told(String::new(self.alloc), passed)
+        with_result(String::new(self.alloc), passed)
     }
 
     fn follows(&mut self, client: &str, source: &str) -> Result<String, PlayError> {
@@ -226,13 +226,13 @@ impl Table {
     }
 }
 
-// Tells what a call returned, unless memory was refused to it.
-fn told<T: Debug + Drop>(
+// The text with what a call returned behind it. Fails where memory was refused to the call.
+fn with_result<T: Debug + Drop>(
     mut text: String,
-    told: Result<T, ClientError>,
+    outcome: Result<T, ClientError>,
 ) -> Result<String, PlayError> {
-    match told {
-        Ok(told) => write!(text, "{told:?}")?,
+    match outcome {
+        Ok(value) => write!(text, "{value:?}")?,
         Err(ClientError::Memory) => return Err(PlayError::Memory),
         Err(error) => write!(text, "refused: {error}")?,
     }

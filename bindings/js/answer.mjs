@@ -71,12 +71,15 @@ function readAttribute(reader) {
     return pen => ({ ...pen, [name]: value });
 }
 
+const toStart = () => 0;
+
 /** A position, as what gives the place that it leads to: from `at`, in so many columns or rows. */
 function readPosition(reader) {
     reader.item(ARRAY, 2, 2);
     const which = reader.item(UINT, 0, 2, 'type'), isBack = !which && reader.is(NEGATIVE);
     const argument = reader.item(isBack ? NEGATIVE : UINT, 0, which ? Infinity : MOST_OFFSET);
     const value = isBack ? -1 - Number(argument) : Number(argument); // rounded where long
+    if (which === 1 && value === 0) return toStart;
     return (at, size) => [Math.min(at + value, size - 1), value, size - value][which];
 }
 
@@ -128,17 +131,38 @@ const CHANGES = [
     [REGION, (screen, first, size, count) => screen.scroll(first, size, Number(count))],
     [REGION, (screen, first, size, count) => screen.scroll(first, size, -Number(count))],
     [[readText], (screen, title) => { screen.title = title; }],
-    [[upTo(3)], ({ rows, cursor }, n) => { rows[cursor.y].attribute = n; }],
+    [[upTo(3)], (screen, n) => screen.mark(n)],
 ];
 
-/** What a change does to a screen. */
-function readChange(reader, height) {
+function countLineFeeds(text) {
+    let count = 0;
+    for (let at = text.indexOf('\n'); at >= 0; at = text.indexOf('\n', at + 1)) count++;
+    return BigInt(count);
+}
+
+const ofAll = (w, h) => w * h;
+const ofScroll = (w, h, first, size, count) =>
+    BigInt(size) + w * BigInt(count < size ? count : size);
+// By a change's kind, its work on a screen of `w` columns and `h` rows, where it has any. These and
+// their sums are BigInts, since a double may round them.
+const WORK = {
+    2: (w, h, text) => w * countLineFeeds(text),
+    3: ofAll,
+    4: w => w,
+    5: ofAll,
+    6: (w, h, x) => (x === toStart ? 0n : w),
+    10: ofScroll,
+    11: ofScroll,
+};
+
+/** A change's work in this size, and what it does to a screen. */
+function readChange(reader, w, h) {
     const items = reader.item(ARRAY, 2, 4), kind = reader.item(UINT, 0, CHANGES.length - 1, 'type');
     const [form, apply] = CHANGES[kind], isPlainText = kind === 2 && items === 2;
     if (items !== form.length + 1 && !isPlainText) reader.fail('type', `${items} items`);
     const values = [];
-    while (values.length < items - 1) values.push(form[values.length](reader, values, height));
-    return screen => apply(screen, ...values);
+    while (values.length < items - 1) values.push(form[values.length](reader, values, Number(h)));
+    return [WORK[kind]?.(w, h, ...values) ?? 0n, screen => apply(screen, ...values)];
 }
 
 function readVersion(reader, count) {
@@ -148,7 +172,7 @@ function readVersion(reader, count) {
 }
 
 /** An answer without its changes: its numbers, with their places, and the count of the changes. */
-export function readHead(reader, cells) {
+export function readHead(reader, { cells = Infinity, rows = Infinity } = {}) {
     const places = {};
     const number = (name, ...range) => {
         places[name] = reader.next;
@@ -157,17 +181,22 @@ export function readHead(reader, cells) {
     readVersion(reader, 7);
     const surface = BigInt(number('surface', 1));
     const width = number('width', 1, MOST_SIZE), height = number('height', 1, MOST_SIZE);
+    if (height > rows) reader.fail('limit', `more than ${rows} rows`);
     if (width > cells / height) reader.fail('limit', `more than ${cells} cells`);
     const base = BigInt(number('base')), own = BigInt(number('number', base));
     const head = { surface, width, height, base, number: own, count: reader.count() };
-    return { ...head, places, changes: [], next: reader.next };
+    return { ...head, places, changes: [], work: 0n, next: reader.next };
 }
 
 /** Reads an answer's changes, from the last whole one on, so that none is read twice. */
 export function readChanges(reader, answer) {
+    const w = BigInt(answer.width), h = BigInt(answer.height), most = 64n + 4n * w * h;
     while (answer.changes.length < answer.count) {
         reader.change = answer.changes.length;
-        answer.changes.push(readChange(reader, answer.height));
+        const [work, change] = readChange(reader, w, h);
+        answer.work += work;
+        if (answer.work > most) reader.fail('limit', `a work of more than ${most}`, answer.next);
+        answer.changes.push(change);
         answer.next = reader.next;
     }
 }

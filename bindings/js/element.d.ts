@@ -3,7 +3,8 @@ import type { Client, Screen } from './tikeburo.js';
 
 /**
  * `<tikeburo-screen>`, which is defined where this module is loaded. It sends the events `screen`,
- * after each drawing, and `state`, where `state` or `message` is another.
+ * after each drawing, and `state`, where `state` or `message` is another. The attributes `cells`,
+ * `rows` and `bytes` limit an answer, as the options of a `Client` do.
  */
 export class TikeburoScreen extends HTMLElement {
     readonly screen: Screen;

@@ -68,7 +68,7 @@ export class TikeburoScreen extends HTMLElement {
 
     get #limits() {
         const limit = name => Number(this.getAttribute(name)) || undefined;
-        return { cells: limit('cells'), bytes: limit('bytes') };
+        return { cells: limit('cells'), rows: limit('rows'), bytes: limit('bytes') };
     }
 
     connectedCallback() {

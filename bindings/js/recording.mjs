@@ -31,7 +31,7 @@ function readEntry(reader) {
 /** A whole answer's bytes, after those that came before. */
 function readAnswer(reader, entries) {
     const begin = reader.next, own = new Reader(reader.bytes.subarray(begin), UNLIMITED);
-    readChanges(own, readHead(own, Infinity));
+    readChanges(own, readHead(own));
     reader.next += own.next;
     return { time: APART * entries.length, bytes: reader.bytes.subarray(begin, reader.next) };
 }
@@ -61,7 +61,7 @@ export function readRecording(bytes) {
 /** Whether what begins here is a repaint. */
 export function isRepaint(bytes) {
     try {
-        return readHead(new Reader(bytes, Infinity), Infinity).base === 0n;
+        return readHead(new Reader(bytes, Infinity)).base === 0n;
     } catch {
         return false;
     }

@@ -7,12 +7,13 @@ export const DEFAULT_ATTRIBUTES = Object.freeze({
 
 export const isBreak = piece => piece === '\n' || piece === '\r' || piece === '\r\n';
 const blank = attributes => Object.freeze({ text: ' ', columns: 1, attributes });
-const DEFAULT_BLANK = blank(DEFAULT_ATTRIBUTES);
-/** A row of cells of single width. */
-const newRow = width => ({ cells: Array(width).fill(DEFAULT_BLANK), attribute: 3 });
+/** A row of blanks, which is shared: `cells` are made where it is first written to. */
+const blankRow = (rest, attribute) => Object.freeze({ cells: null, rest, attribute });
+const DEFAULT_ROW = blankRow(blank(DEFAULT_ATTRIBUTES), 3); // of single width
 
-/** Of a cell of two columns before `x`, only a blank is left. */
-function halve(cells, x) {
+/** Has a row's cells up to column `x`, before which only a blank is left of one of two columns. */
+function cut({ cells, rest }, x) {
+    while (cells.length < x) cells.push(rest);
     const cell = cells[x - 1];
     if (cell?.columns === 2) cells[x - 1] = blank(cell.attributes);
 }
@@ -20,6 +21,8 @@ function halve(cells, x) {
 export class Screen {
     surface = 0n;
     number = 0n;
+    #rows; // of the screen, behind those that left it by line feeds
+    #top; // how many left
 
     constructor() {
         this.reset(0, 0);
@@ -28,13 +31,22 @@ export class Screen {
     /** All as new, in this size. */
     reset(width, height) {
         const cursor = { x: 0, y: 0, visible: true, shape: 0, color: null };
-        const rows = Array.from({ length: height }, () => newRow(width));
-        Object.assign(this, { width, height, rows, cursor, pen: DEFAULT_ATTRIBUTES, title: '' });
+        this.#rows = Array(height).fill(DEFAULT_ROW);
+        this.#top = 0;
+        Object.assign(this, { width, height, cursor, pen: DEFAULT_ATTRIBUTES, title: '' });
+    }
+
+    get rows() {
+        this.#drop();
+        return this.#rows;
     }
 
     *cells(y) {
-        const { cells } = this.rows[y];
-        for (let x = 0; x < this.width; x += cells[x].columns) yield [x, cells[x]];
+        const { cells, rest } = this.rows[y]; // blanks are the rest behind the cells
+        for (let x = 0, cell; x < this.width; x += cell.columns) {
+            cell = cells?.[x] ?? rest;
+            yield [x, cell];
+        }
     }
 
     text(y) {
@@ -46,13 +58,30 @@ export class Screen {
         return `viewer ${this.number}\n${rows}cursor ${this.cursor.x} ${this.cursor.y}\n`;
     }
 
+    /** Row `y`, to write to. */
+    #row(y) {
+        const at = this.#top + y, row = this.#rows[at];
+        return row.cells ? row : this.#rows[at] = { ...row, cells: [] };
+    }
+
+    /** Sets the attribute of the cursor's row. */
+    mark(attribute) {
+        this.#row(this.cursor.y).attribute = attribute;
+    }
+
     /** Clears row `y` from column `x` on, and the rows below it that are before row `end`. */
     clear(background, { x, y }, end = this.height) {
         this.pen = Object.freeze({ ...DEFAULT_ATTRIBUTES, background });
-        const { cells } = this.rows[y], rest = blank(this.pen);
-        if (x < this.width) halve(cells, x);
-        cells.fill(rest, x);
-        for (const row of this.rows.slice(y + 1, end)) row.cells.fill(rest);
+        const rest = blank(this.pen), blanks = [0, 1, 2, 3].map(n => blankRow(rest, n));
+        if (x > 0 && x < this.width) {
+            const row = this.#row(y);
+            cut(row, x);
+            row.cells.length = x;
+            row.rest = rest;
+        }
+        for (let at = this.#top + (x > 0 ? y + 1 : y); at < this.#top + end; at++) {
+            this.#rows[at] = blanks[this.#rows[at].attribute];
+        }
     }
 
     /** Moves to what `x` and `y` give for the cursor's place. A column may be the width itself. */
@@ -64,11 +93,22 @@ export class Screen {
 
     /** Scrolls `size` rows from row `first` on up by `count`, or down where that is below 0. */
     scroll(first, size, count) {
-        const isInside = y => y >= first && y < first + size;
-        this.rows = this.rows.map((row, y, rows) => {
-            if (!isInside(y)) return row;
-            return isInside(y + count) ? rows[y + count] : newRow(this.width);
+        const begin = this.#top + first, region = this.#rows.slice(begin, begin + size);
+        const isInside = k => k >= 0 && k < size;
+        region.forEach((_, k) => {
+            this.#rows[begin + k] = isInside(k + count) ? region[k + count] : DEFAULT_ROW;
         });
+    }
+
+    /** All rows move up. Those that leave are dropped together, and so in a step or two each. */
+    #feed() {
+        this.#rows.push(DEFAULT_ROW);
+        if (++this.#top > this.height) this.#drop();
+    }
+
+    #drop() {
+        this.#rows.splice(0, this.#top);
+        this.#top = 0;
     }
 
     /** Prints runs of pieces. Without these each character is a piece of one column. */
@@ -83,15 +123,16 @@ export class Screen {
         if (piece !== '\n') cursor.x = 0;
         if (piece === '\r') return;
         if (cursor.y + 1 < height) cursor.y++;
-        else this.scroll(0, height, 1);
+        else this.#feed();
     }
 
     #print(piece, columns) {
         const first = piece.charCodeAt(0), isControl = first < 32 || first === 127;
         if (isControl && isBreak(piece)) return this.#break(piece);
         if (this.cursor.x >= this.width) this.#break('\r\n');
-        const { x, y } = this.cursor, { cells } = this.rows[y], text = isControl ? ' ' : piece;
-        halve(cells, x);
+        const { x, y } = this.cursor, row = this.#row(y), { cells } = row;
+        const text = isControl ? ' ' : piece;
+        cut(row, x);
         cells[x] = Object.freeze({ text, columns, attributes: this.pen });
         if (columns === 2 && x + 1 < this.width) cells[x + 1] = blank(this.pen);
         this.cursor.x = Math.min(x + columns, this.width);

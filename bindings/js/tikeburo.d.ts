@@ -97,6 +97,7 @@ export class Screen {
     /** In columns and rows; 0 and 0 before the first answer. */
     readonly width: number;
     readonly height: number;
+    /** From the top on. Rows of blanks may be one object. */
     readonly rows: readonly Row[];
     readonly cursor: Cursor;
     readonly pen: Attributes;
@@ -119,6 +120,8 @@ export class Screen {
 export interface ClientOptions {
     /** Most cells of an answer, width times height; 1,048,576 if not given. */
     cells?: number;
+    /** Most rows of an answer; 65,536 if not given. */
+    rows?: number;
     /** Most bytes of an answer; 16,777,216 if not given. */
     bytes?: number;
     /** Called after each answer that was taken. */
@@ -136,7 +139,7 @@ export class Client {
 
     onanswer: ((client: Client) => void) | null;
     onstale: ((fault: Fault, client: Client) => void) | null;
-    readonly limits: { readonly cells: number; readonly bytes: number };
+    readonly limits: { readonly cells: number; readonly rows: number; readonly bytes: number };
     readonly screen: Screen;
     /** How many answers of this connection were read, stale ones too. */
     readonly answers: number;

@@ -21,8 +21,10 @@ export class Client {
     #answer = null; // what is read of it
     #wanted = 1; // it doesn't end before so many bytes
 
-    constructor({ cells = 1 << 20, bytes = 1 << 24, onanswer = null, onstale = null } = {}) {
-        Object.assign(this, { limits: { cells, bytes }, onanswer, onstale });
+    constructor({
+        cells = 1 << 20, rows = 1 << 16, bytes = 1 << 24, onanswer = null, onstale = null,
+    } = {}) {
+        Object.assign(this, { limits: { cells, rows, bytes }, onanswer, onstale });
     }
 
     get pending() {
@@ -76,7 +78,7 @@ export class Client {
         const reader = new Reader(this.#bytes, this.limits.bytes, this.#answer?.next);
         let stale = null;
         try {
-            const answer = this.#answer ??= readHead(reader, this.limits.cells);
+            const answer = this.#answer ??= readHead(reader, this.limits);
             readChanges(reader, answer);
             this.#begin(reader.next);
             this.#take(answer);

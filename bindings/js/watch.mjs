@@ -1,17 +1,18 @@
 #!/usr/bin/env node
-// watch.mjs [-a] [--cells N] [--bytes N] reads a stream of answers and prints what its viewer shows
-// after the last one, or with -a after each, as `surfwatch` does. A stale answer is reported, and a
-// fault ends it, each with status 2; a failed write ends it with 3.
+// watch.mjs [-a] [--cells N] [--rows N] [--bytes N] reads a stream of answers and prints what its
+// viewer shows after the last one, or with -a after each, as `surfwatch` does. A stale answer is
+// reported, and a fault ends it, each with status 2; a failed write ends it with 3.
 import { readSync, writeSync } from 'node:fs';
 import { parseArgs } from 'node:util';
 import { Client } from './tikeburo.mjs';
 
-const USAGE = 'usage: watch.mjs [-a] [--cells N] [--bytes N]';
+const USAGE = 'usage: watch.mjs [-a] [--cells N] [--rows N] [--bytes N]';
 
 /** The options, or nothing where they are others. */
 function optionsOf(args) {
     const options = {
-        all: { type: 'boolean', short: 'a' }, cells: { type: 'string' }, bytes: { type: 'string' },
+        all: { type: 'boolean', short: 'a' }, cells: { type: 'string' }, rows: { type: 'string' },
+        bytes: { type: 'string' },
     };
     try {
         const { all, ...limits } = parseArgs({ args, options }).values;

@@ -8,6 +8,8 @@ import { fileURLToPath } from 'node:url';
 import { Client } from '../tikeburo.mjs';
 import { sequence } from './encode.mjs';
 import { randomFrom } from './random.mjs';
+import { randomChanges } from './screens.mjs';
+import { allowed } from './work.mjs';
 
 const ask = (surface, number) => sequence([2, surface, number]);
 const repaint = (width, height, number, ...changes) =>
@@ -73,6 +75,8 @@ test('limits', () => {
     const bytes = repaint(4, 3, 5, [2, 'ab']);
     assert.equal(faultOf({ cells: 12 }, bytes), null);
     assert.equal(faultOf({ cells: 11 }, bytes), 'limit at 4');
+    assert.equal(faultOf({ rows: 3 }, bytes), null);
+    assert.equal(faultOf({ rows: 2 }, bytes), 'limit at 4');
     assert.equal(faultOf({ bytes: bytes.length }, bytes), null);
     assert.equal(faultOf({ bytes: bytes.length - 1 }, bytes), 'limit at 10 in change 0');
     assert.equal(faultOf({ bytes: bytes.length - 1 }, bytes.subarray(0, 11)),
@@ -90,9 +94,111 @@ test('what is buffered stays near the limit', () => {
     assert.equal(client.pending, 0);
 });
 
+test('the first change past the work of an answer is its fault', () => {
+    const random = randomFrom(64), found = { whole: 0, limit: 0 };
+    for (let k = 0; k < 500; k++) {
+        const size = [1 + random(12), 1 + random(8)], changes = randomChanges(random, ...size);
+        const count = allowed(changes, ...size).length, rest = changes.slice(count);
+        const bytes = repaint(...size, 1, ...changes), at = bytes.length - sequence(...rest).length;
+        const client = new Client();
+        for (let part = 0; part < bytes.length; part += 100) {
+            client.feed(bytes.subarray(part, part + 100));
+        }
+        const message = rest.length ? `limit at ${at} in change ${count}` : undefined;
+        assert.equal(client.end()?.message, message);
+        found[rest.length ? 'limit' : 'whole']++;
+    }
+    assert.ok(found.whole > 50 && found.limit > 50, JSON.stringify(found));
+});
+
+test('the work is exact where a double is not', () => {
+    const most = 2 ** 32 - 1, great = (1n << 64n) - 1n, clear = [3, null];
+    const faultOf = (...changes) => {
+        const client = new Client({ cells: Infinity, rows: Infinity });
+        client.feed(delta(most, most, 1, ...changes)); // it is stale: no such screen is made
+        return client.end()?.message ?? null;
+    };
+    assert.equal(faultOf(clear, clear, clear, clear, [10, 0, 64, 0]), null);
+    assert.equal(faultOf(clear, clear, clear, clear, [10, 0, 65, 0]), 'limit at 28 in change 4');
+    assert.equal(faultOf(clear, clear, clear, [11, most - 64, 64, great]), null);
+    assert.equal(faultOf(clear, clear, clear, [11, 0, most, great]), 'limit at 25 in change 3');
+});
+
+/** How many row objects a screen has, and how many cells are in them. */
+function madeIn({ rows }) {
+    const made = [...new Set(rows)];
+    return [made.length, made.reduce((sum, { cells }) => sum + (cells?.length ?? 0), 0)];
+}
+
+test('rows of blanks are one, which has no cells', () => {
+    const madeBy = (...changes) => {
+        const client = new Client();
+        client.feed(repaint(1024, 1024, 1, ...changes));
+        assert.equal(client.fault, null);
+        return madeIn(client.screen);
+    };
+    const clear = [3, 1], end = [6, [1, 0], [2, 1]];
+    const first = Array.from({ length: 1024 }, (_, y) => [[6, [1, 0], [1, y]], [2, 'x']]).flat();
+    assert.deepEqual(madeBy(), [1, 0]);
+    assert.deepEqual(madeBy(clear, clear, clear, clear), [1, 0]);
+    assert.deepEqual(madeBy(...first), [1024, 1024]);
+    assert.deepEqual(madeBy(...first, clear), [1, 0]);
+    assert.deepEqual(madeBy(...first, [10, 0, 1024, 1000]), [25, 24]);
+    assert.deepEqual(madeBy([6, [1, 7], [1, 5]], [2, 'x'], [5, 2]), [3, 8]);
+    assert.deepEqual(madeBy([13, 2], [3, 1]), [2, 0]);
+    assert.deepEqual(madeBy(end, [2, `x${'\n'.repeat(1000)}`]), [2, 1]);
+});
+
+/** How many elements the arrays have, of which a method that may touch all of them is called. */
+function touchedIn(run) {
+    const names = ['copyWithin', 'fill', 'forEach', 'map', 'shift', 'slice', 'splice', 'unshift'];
+    const kept = names.map(name => [name, Array.prototype[name]]);
+    let count = 0;
+    for (const [name, method] of kept) {
+        Array.prototype[name] = function touch(...values) {
+            const { length } = this, result = method.apply(this, values);
+            count += name === 'slice' ? result.length : length;
+            return result;
+        };
+    }
+    try {
+        run();
+    } finally {
+        for (const [name, method] of kept) Array.prototype[name] = method;
+    }
+    return count;
+}
+
+test('line feeds and scrolls move rows, and copy no cells', () => {
+    const height = 65536, client = new Client();
+    client.feed(repaint(2, height, 1, [2, `${'x\r\n'.repeat(height - 1)}x`]));
+    let number = 1;
+    /** Where each row's cells were before a change, and how many steps it took. */
+    const moved = change => {
+        const places = new Map(client.screen.rows.map(({ cells }, y) => [cells, y]));
+        places.set(null, null); // a row of blanks has none
+        const steps = touchedIn(() => client.feed(delta(2, height, number++, change)));
+        assert.equal(client.fault, null);
+        return { from: client.screen.rows.map(({ cells }) => places.get(cells)), steps };
+    };
+    const all = Array.from({ length: height }, (_, y) => y);
+    const none = count => Array(count).fill(null);
+    const up = moved([10, 0, height - 1, 1]);
+    assert.deepEqual(up.from, [...all.slice(1, -1), null, height - 1]);
+    assert.ok(up.steps < 3 * height, up.steps);
+    const down = moved([11, 100, 10, 3]);
+    assert.deepEqual(down.from.slice(100, 110), [...none(3), ...all.slice(100, 107)]);
+    assert.ok(down.steps < 100, down.steps);
+    const few = moved([2, '\n'.repeat(1000)]);
+    assert.deepEqual(few.from.slice(-1002), [null, height - 1, ...none(1000)]);
+    assert.ok(few.steps < 100, few.steps);
+    const many = moved([2, '\n'.repeat(100000)]);
+    assert.deepEqual(many.from, none(height));
+    assert.ok(many.steps < 4 * 100000, many.steps);
+});
+
 test('great screens, and scrolls of all their rows', () => {
-    const client = new Client();
-    const rows = 1 << 20;
+    const rows = 1 << 20, client = new Client({ rows });
     client.feed(repaint(1, rows, 1, [2, 'x'], [10, 0, rows, rows], [11, 0, rows, 1], [2, 'y\n']));
     assert.equal(client.fault, null);
     assert.equal(client.screen.text(1), 'y');
@@ -102,10 +208,16 @@ test('great screens, and scrolls of all their rows', () => {
 test('a text of many pieces that comes in small parts is read a few times only', () => {
     const count = 100000, runs = Array.from({ length: count }, (_, k) => [1, 1, 2 - k % 2]).flat();
     const bytes = repaint(80, 24, 1, [2, 'x'.repeat(count), runs]);
-    const client = new Client(), began = Date.now();
+    const client = new Client(), { decode } = TextDecoder.prototype;
+    let read = 0;
+    TextDecoder.prototype.decode = function count(...values) {
+        read++;
+        return decode.apply(this, values);
+    };
     for (let at = 0; at < bytes.length; at += 50) client.feed(bytes.subarray(at, at + 50));
+    TextDecoder.prototype.decode = decode;
     assert.equal(client.end(), null);
-    assert.ok(Date.now() - began < 10000);
+    assert.ok(read < 5, read);
 });
 
 test('4,000 damaged streams do alike in any chunks, and throw nothing', () => {
@@ -158,12 +270,13 @@ test('watch.mjs', () => {
     const cut = 'answer 2: truncated at 10 in change 0\n';
     assert.deepEqual(watch(join(first, second.subarray(0, 12))), [one, cut, 2]);
     assert.deepEqual(watch(first, '--cells', '3'), ['', 'answer 1: limit at 4\n', 2]);
+    assert.deepEqual(watch(first, '--rows', '0'), ['', 'answer 1: limit at 4\n', 2]);
     assert.deepEqual(watch(first, '--bytes=3'), ['', 'answer 1: limit at 3\n', 2]);
     const closed = spawnSync('sh', ['-c', '"$@" <&-', 'sh', process.execPath, program]);
     assert.deepEqual([String(closed.stderr), closed.status], ['', 0]);
     const folder = spawnSync('sh', ['-c', '"$@" </', 'sh', process.execPath, program]);
     assert.deepEqual([String(folder.stderr), folder.status], ['input: unreadable\n', 2]);
-    const usage = 'usage: watch.mjs [-a] [--cells N] [--bytes N]\n';
+    const usage = 'usage: watch.mjs [-a] [--cells N] [--rows N] [--bytes N]\n';
     for (const words of [['-b'], ['x'], ['--cells'], ['--cells', 'x'], ['--bytes', '-1'], ['--bytes', '0']]) {
         assert.deepEqual(watch('', ...words), ['', usage, 2]);
     }

@@ -13,7 +13,7 @@ const ADDRESSES = ['https://example.com/a?b=c#d', 'http://example.com/', 'javasc
 /** A text of such pieces. A CR never stands before an LF, which would be one piece with it. */
 function randomText(random) {
     const pieces = Array.from({ length: random(14) }, () => random.pick(PIECES))
-        .filter(([piece], k, all) => piece !== '\r' || !all[k + 1]?.[0].startsWith('\n'));
+        .filter(([piece], k, all) => piece !== '\r' || !/^[\r\n]/.test(all[k + 1]?.[0]));
     const runs = [];
     for (const [piece, columns] of pieces) {
         const size = [...piece].length, [, lastSize, lastColumns] = runs.at(-1) ?? [];

@@ -24,7 +24,8 @@ function resultOf(...parts) {
     parts.forEach(part => client.feed(part));
     if (client.end()) faults.push(client.fault);
     const places = faults.map(({ kind, at, change, answer }) => ({ kind, at, change, answer }));
-    return { screen: client.screen, text: String(client.screen), answers: client.answers, places };
+    const { screen, answers } = client;
+    return { screen, rows: screen.rows, text: String(screen), answers, places };
 }
 
 /** The result of the whole stream, after seeing that every other cut leads to it too. */
@@ -100,9 +101,9 @@ function judgeChange(hex) {
 /** A delta is behind a repaint that leads to its base. */
 function judgeAnswer(hex) {
     const bytes = bytesOf(hex), [, surface, width, height, base, number, changes] = decode(bytes);
-    const found = readHead(new Reader(bytes, Infinity), Infinity);
-    const { places, next, changes: read, ...head } = found;
-    assert.deepEqual(read, []);
+    const found = readHead(new Reader(bytes, Infinity));
+    const { places, next, changes: read, work, ...head } = found;
+    assert.deepEqual([read, work], [[], 0n]);
     assert.deepEqual(head, {
         surface, base, number, width: Number(width), height: Number(height), count: changes.length,
     });

@@ -29,21 +29,21 @@ pub record Given (IsValue : List ℕ → Type 0) (option : List ℕ) (words : Li
   pub value_is : value ≡ value_of (string_bytes number)
 
 pub cells_asks : (o p : WatchOptions) (word number : Word) (words : List Word) (cells : ℕ) → Given IsWholeNumber (codes "--cells") words word number cells
-    → AskFor (record o { limits = record { cells = cells; bytes = o.limits.bytes } }) (take (length words - 2) (drop 2 words)) p → AskFor o words p
+    → AskFor (record o { limits = record o.limits { cells = cells } }) (take (length words - 2) (drop 2 words)) p → AskFor o words p
 cells_asks o p word number [] cells g asked = absurd (omega (arith, g.some))
 cells_asks o p word number (w ∷ []) cells g asked = absurd (omega (arith, g.some))
 cells_asks o p word number (w ∷ v ∷ words) cells g asked =
-    let P : List Word → ℕ → Type 0 = λ ws n. AskFor (record o { limits = record { cells = n; bytes = o.limits.bytes } }) ws p in
+    let P : List Word → ℕ → Type 0 = λ ws n. AskFor (record o { limits = record o.limits { cells = n } }) ws p in
     let behind_is = subst (λ (ws : List Word). P ws cells) (behind 2 (w ∷ v ∷ words)) asked in
     Cells o p w v words (ap (λ (x : Word). string_bytes x) (sym g.first) ∙ g.named) (subst (λ (x : Word). IsWholeNumber (string_bytes x)) g.second g.whole)
     (subst (λ (n : ℕ). P words n) (g.value_is ∙ ap (λ (x : Word). value_of (string_bytes x)) g.second) behind_is)
 
 pub bytes_asks : (o p : WatchOptions) (word number : Word) (words : List Word) (bytes : ℕ) → Given IsPositive (codes "--bytes") words word number bytes
-    → AskFor (record o { limits = record { cells = o.limits.cells; bytes = bytes } }) (take (length words - 2) (drop 2 words)) p → AskFor o words p
+    → AskFor (record o { limits = record o.limits { bytes = bytes } }) (take (length words - 2) (drop 2 words)) p → AskFor o words p
 bytes_asks o p word number [] bytes g asked = absurd (omega (arith, g.some))
 bytes_asks o p word number (w ∷ []) bytes g asked = absurd (omega (arith, g.some))
 bytes_asks o p word number (w ∷ v ∷ words) bytes g asked =
-    let P : List Word → ℕ → Type 0 = λ ws n. AskFor (record o { limits = record { cells = o.limits.cells; bytes = n } }) ws p in
+    let P : List Word → ℕ → Type 0 = λ ws n. AskFor (record o { limits = record o.limits { bytes = n } }) ws p in
     let behind_is = subst (λ (ws : List Word). P ws bytes) (behind 2 (w ∷ v ∷ words)) asked in
     Bytes o p w v words (ap (λ (x : Word). string_bytes x) (sym g.first) ∙ g.named) (subst (λ (x : Word). IsPositive (string_bytes x)) g.second g.whole)
     (subst (λ (n : ℕ). P words n) (g.value_is ∙ ap (λ (x : Word). value_of (string_bytes x)) g.second) behind_is)

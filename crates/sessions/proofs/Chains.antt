@@ -41,7 +41,7 @@ module _ (limits : Limits) (some : 0 < limits.bytes) where
 
   -- an answer of a chain is decoded
   decoded : (f : Given) (s : Shown) (bytes rest : List ℕ) → TakesFrame s f → IsWithin limits f → bytes ≡ answer unicode_columns f.sent ++ rest → answer_at unicode_columns limits bytes ≡ Ok (f.sent, rest)
-  decoded f s bytes rest takes within is = ap (answer_at unicode_columns limits) is ∙ law.again f.sent rest takes.form within.cells within.bytes
+  decoded f s bytes rest takes within is = ap (answer_at unicode_columns limits) is ∙ law.again f.sent rest takes.form (record { screen = within.screen; bytes = within.bytes; borne = takes.borne })
 
   -- nothing is, from no bytes
   none_read : (a : SentAnswer) (rest bytes : List ℕ) → bytes ≡ [] → answer_at unicode_columns limits bytes ≡ Ok (a, rest) → ⊥

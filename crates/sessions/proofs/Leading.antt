@@ -20,7 +20,7 @@ Viewer = ClientValue UnicodeWidths
 
 -- one that has taken no answer
 abbrev pub nobody : Viewer
-nobody = record { surface = blank_surface unicode 1 1 true; source = 0; number = 0; kept = []; limits = record { cells = 0; bytes = 0 }; stopped = None }
+nobody = record { surface = blank_surface unicode 1 1 true; source = 0; number = 0; kept = []; limits = record { cells = 0; rows = 0; bytes = 0 }; stopped = None }
 
 -- a response to what was sent last is one to what the client asks
 module _ (s : Sender) (n : ℕ) (v : Shown) (named : HasNamed s n v) where
@@ -49,18 +49,19 @@ module _ (s : Sender) (n : ℕ) (v : Shown) (named : HasNamed s n v) where
     from = from_asked ask asks r.given.base r.from;
     carries = r.carries;
     few = r.few;
+    borne = r.borne;
   }
 
 module _ (s : Sender) (n : ℕ) (v : Shown) (named : HasNamed s n v) (ask : Ask) (asks : ask.number ≡ n) (bytes : List ℕ) (r : IsResponse columns s ask bytes) where
   pub given_leads : TakesFrame v (frame_of s ask bytes r)
   given_leads =
       let took = response_taken columns s named.client named.serves bytes (as_asked s n v named ask asks bytes r) in
-      subst (λ (x : Shown). TakesFrame x (frame_of s ask bytes r)) named.shows (record { form = r.is_sent; fresh = took.0; size = took.1; leads = took.2 })
+      subst (λ (x : Shown). TakesFrame x (frame_of s ask bytes r)) named.shows (record { form = r.is_sent; borne = r.borne; fresh = took.0; size = took.1; leads = took.2 })
 
   -- its number names what the source shows
   pub given_named : HasNamed s (next_number s.surface.log) (shown_with (frame_of s ask bytes r))
   given_named = record {
-    client = record { surface = s.surface; source = s.number; number = next_number s.surface.log; kept = []; limits = record { cells = 0; bytes = 0 }; stopped = None };
+    client = record { surface = s.surface; source = s.number; number = next_number s.surface.log; kept = []; limits = record { cells = 0; rows = 0; bytes = 0 }; stopped = None };
     shows = ap (λ (k : ℕ). record { picture = (frame_of s ask bytes r).shown; source = s.number; number = k }) (sym r.number);
     serves = record {
       past = named.serves.past;

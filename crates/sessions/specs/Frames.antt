@@ -1,11 +1,13 @@
 -- Answers one behind another, each of which brings whoever took all before it to the full screen
 -- that its source had.
 use Rattle.std.specs.Bool.{⊤}
-use Rattle.std.specs.Prelude.{◌≡◌, ◌*◌, ◌≤◌, true, false, List, [], ◌∷◌, length}
+use Rattle.std.specs.Prelude.{◌≡◌, ◌≤◌, true, false, List, [], ◌∷◌, length}
 use Rattle.termwiz_cell.specs.Width.{unicode_columns}
 use Rattle.termwiz_share.specs.Client.{Shown, blank_screen, fits, has_other_size, taken}
 use Rattle.termwiz_share.specs.Histories.{Given}
+use Rattle.termwiz_wire.specs.Screens.{FitsLimits}
 use Rattle.termwiz_wire.specs.Sent.{IsSent, answer}
+use Rattle.termwiz_wire.specs.Within.{IsBorne}
 use Rattle.termwiz_wire.specs.declared.fault.Limits.{Limits}
 
 -- what is shown by whoever took the frame's answer
@@ -17,14 +19,15 @@ shown_with f =
 abbrev pub first_shown : Shown
 first_shown = record { picture = blank_screen 1 1; source = 0; number = 0 }
 
--- the answer has no more cells and bytes than the limits
+-- the answer has no more cells, rows and bytes than the limits
 pub record IsWithin (limits : Limits) (f : Given) : Type 0 where
-  pub cells : f.sent.answer.width * f.sent.answer.height ≤ limits.cells
+  pub screen : FitsLimits limits f.sent.answer.width f.sent.answer.height
   pub bytes : length (answer unicode_columns f.sent) ≤ limits.bytes
 
 -- whoever shows s takes the answer, and shows the frame's screen then
 pub record TakesFrame (s : Shown) (f : Given) : Type 0 where
   pub form : IsSent unicode_columns f.sent
+  pub borne : IsBorne f.sent
   pub fresh : fits s f.sent ≡ true
   pub size : has_other_size s f.sent ≡ false
   pub leads : taken unicode_columns s f.sent ≡ shown_with f

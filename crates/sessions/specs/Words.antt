@@ -51,7 +51,7 @@ module _ {A : Type 0} where
         → AskFor
         (record o {
           limits =
-              record { cells = value_of (string_bytes number); bytes = o.limits.bytes };
+              record o.limits { cells = value_of (string_bytes number) };
         })
         words p →
         AskFor o (word ∷ number ∷ words) p
@@ -61,14 +61,15 @@ module _ {A : Type 0} where
         → AskFor
         (record o {
           limits =
-              record { cells = o.limits.cells; bytes = value_of (string_bytes number) };
+              record o.limits { bytes = value_of (string_bytes number) };
         })
         words p →
         AskFor o (word ∷ number ∷ words) p
 
 -- the last view alone is asked for, within the limits that the vectors have
 abbrev pub first_options : WatchOptions
-first_options = record { each = false; limits = record { cells = 1048576; bytes = 16777216 } }
+first_options =
+    record { each = false; limits = record { cells = 1048576; rows = 65536; bytes = 16777216 } }
 
 abbrev pub AreWatchWords : {A : Type 0} → List (String A) → Type 0
 AreWatchWords words = (p : WatchOptions) × AskFor first_options words p

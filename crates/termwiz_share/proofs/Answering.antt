@@ -13,12 +13,16 @@ use Rattle.termwiz_screen.proofs.Logs.{flushed_number}
 use Rattle.termwiz_surface.specs.Answer.{AnswerValue, is_repaint}
 use Rattle.termwiz_surface.specs.Asking.{knows, own_repaint}
 use Rattle.termwiz_surface.specs.Carried.{IsGivenBy}
-use Rattle.termwiz_surface.specs.Surface.{SurfaceValue, full_of}
+use Rattle.termwiz_screen.specs.Printable.{IsPrintable}
+use Rattle.termwiz_surface.specs.Surface.{SurfaceValue, full_of, screen_of}
 use Rattle.termwiz_surface.proofs.Remembering.{given-carries}
 use Rattle.termwiz_wire.specs.Lengths.{capped}
+use Rattle.termwiz_wire.proofs.RepaintWork.{full_repaint_borne}
 use Rattle.termwiz_wire.specs.Sent.{IsSent, answer}
+use Rattle.termwiz_wire.specs.Within.{IsBorne}
+use Rattle.termwiz_wire.specs.Work.{most_work, work_of}
 use Rattle.termwiz_wire.specs.declared.sent.Ask.{Ask}
-use Rattle.termwiz_share.specs.Source.{Answers, IsResponse, Responds, SourceValue, bytes_of, delta_of, given_for, most_bytes, number_asked, repaint_of, response_bytes, sent_by, trimmed}
+use Rattle.termwiz_share.specs.Source.{Answers, IsResponse, Responds, SourceValue, bytes_of, delta_of, given_for, is_worth, most_bytes, number_asked, repaint_of, response_bytes, sent_by, trimmed}
 
 abbrev with_base : AnswerValue → ℕ → AnswerValue
 with_base a b = record a { base = b }
@@ -34,6 +38,12 @@ none_known s n z = rw z refl
 abbrev chosen : Bool → Bool → AnswerValue → AnswerValue → AnswerValue
 chosen known few delta repaint = if known && few then delta else repaint
 
+-- what isn't worth sending gives way
+unless : (d r : AnswerValue) (known worth : Bool) → worth ≡ false → chosen known worth d r ≡ r
+unless d r true false e = refl
+unless d r true true e = absurd cc
+unless d r false worth e = refl
+
 module _ {W : Type 0} (f : W → List ℕ → ℕ) (s : SourceValue W) (n : ℕ) where
   abbrev delta : AnswerValue
   delta = delta_of s.surface n
@@ -44,14 +54,27 @@ module _ {W : Type 0} (f : W → List ℕ → ℕ) (s : SourceValue W) (n : ℕ)
   abbrev few_bytes : ℕ
   few_bytes = most_bytes s.surface.width s.surface.height
 
-  for_short : knows s.surface n ≡ true → len ≤ few_bytes → given_for f s n ≡ delta
-  for_short known few = ap₂ (λ (k l : Bool). chosen k l delta (repaint_of s.surface)) known (le-leb len few_bytes few)
+  abbrev effort : ℕ
+  effort = work_of delta.width delta.height delta.changes
 
-  for_long : knows s.surface n ≡ true → few_bytes < len → given_for f s n ≡ repaint_of s.surface
-  for_long known long = ap₂ (λ (k l : Bool). chosen k l delta (repaint_of s.surface)) known (lt-leb len few_bytes long)
+  abbrev few_steps : ℕ
+  few_steps = most_work delta.width delta.height
+
+  for_short : knows s.surface n ≡ true → len ≤ few_bytes → effort ≤ few_steps → given_for f s n ≡ delta
+  for_short known few easy = rw (known, le-leb len few_bytes few, le-leb effort few_steps easy) refl
+
+  for_long : few_bytes < len → given_for f s n ≡ repaint_of s.surface
+  for_long long = ap (λ (l : Bool). chosen (knows s.surface n) (l && nat_le effort few_steps) delta (repaint_of s.surface)) (lt-leb len few_bytes long) ∙ unless delta (repaint_of s.surface) (knows s.surface n) false refl
+
+  for_hard : few_steps < effort → given_for f s n ≡ repaint_of s.surface
+  for_hard hard = ap (λ (l : Bool). chosen (knows s.surface n) (nat_le len few_bytes && l) delta (repaint_of s.surface)) (lt-leb effort few_steps hard) ∙ unless delta (repaint_of s.surface) (knows s.surface n) (nat_le len few_bytes && false) (never (nat_le len few_bytes))
+    where
+      never : (b : Bool) → (b && false) ≡ false
+      never true = refl
+      never false = refl
 
   for_unknown : knows s.surface n ≡ false → given_for f s n ≡ repaint_of s.surface
-  for_unknown un = ap (λ (k : Bool). chosen k (nat_le len few_bytes) delta (repaint_of s.surface)) un
+  for_unknown un = ap (λ (k : Bool). chosen k (is_worth f s delta) delta (repaint_of s.surface)) un
 
 module _ {W : Type 0} (f : W → List ℕ → ℕ) (s : SourceValue W) (n : ℕ) (given : AnswerValue) (is : IsGivenBy full_screens f s.surface n given) (sized : HasFullSize s.surface.width s.surface.height (full_of s.surface)) where
   abbrev size_of : AnswerValue → ℕ
@@ -60,8 +83,8 @@ module _ {W : Type 0} (f : W → List ℕ → ℕ) (s : SourceValue W) (n : ℕ)
   abbrev most : ℕ
   most = max (most_bytes s.surface.width s.surface.height) (size_of (repaint_of s.surface))
 
-  made : (size_of given < 2 ^ 64 → size_of given ≤ most) → (size_of given < 2 ^ 64 → given ≡ given_for f s n) → Answers f s n given
-  made few for = record { asked = n; from = inr refl; is_given = is; sized = sized; few = few; chosen = for }
+  made : (size_of given < 2 ^ 64 → size_of given ≤ most) → (size_of given < 2 ^ 64 → given ≡ given_for f s n) → IsBorne (sent_by s.number given) → Answers f s n given
+  made few for borne = record { asked = n; from = inr refl; is_given = is; sized = sized; few = few; chosen = for; borne = borne }
 
   -- what is due is a delta where the number is known
   is_delta : knows s.surface n ≡ true → given ≡ delta_of s.surface n
@@ -75,8 +98,8 @@ module _ {W : Type 0} (f : W → List ℕ → ℕ) (s : SourceValue W) (n : ℕ)
   ]
 
   -- a short answer,
-  pub answers_short : is_repaint given ≡ false → capped (size_of given) ≤ min (most_bytes s.surface.width s.surface.height) (2 ^ 64 - 1) → Answers f s n given
-  answers_short e few = made (λ fits. short fits) (λ fits. is_delta known ∙ sym (for_short f s n known (subst (λ (a : AnswerValue). size_of a ≤ most_bytes s.surface.width s.surface.height) (is_delta known) (omega (arith, few, fits)))))
+  pub answers_short : is_repaint given ≡ false → capped (size_of given) ≤ min (most_bytes s.surface.width s.surface.height) (2 ^ 64 - 1) → IsBorne (sent_by s.number given) → Answers f s n given
+  answers_short e few borne = made (λ fits. short fits) (λ fits. is_delta known ∙ sym (for_short f s n known (subst (λ (a : AnswerValue). size_of a ≤ most_bytes s.surface.width s.surface.height) (is_delta known) (omega (arith, few, fits))) (subst (λ (a : AnswerValue). IsBorne (sent_by s.number a)) (is_delta known) borne))) borne
     where
       known : knows s.surface n ≡ true
       known = known_base e
@@ -86,9 +109,13 @@ module _ {W : Type 0} (f : W → List ℕ → ℕ) (s : SourceValue W) (n : ℕ)
 
   -- one that has too many bytes gives way to the repaint
   pub long_delta : is_repaint given ≡ false → min (most_bytes s.surface.width s.surface.height) (2 ^ 64 - 1) < capped (size_of given) → given_for f s n ≡ repaint_of s.surface
-  long_delta e long = for_long f s n (known_base e) (subst (λ (a : AnswerValue). most_bytes s.surface.width s.surface.height < size_of a) (is_delta (known_base e)) (omega (arith, long)))
+  long_delta e long = for_long f s n (subst (λ (a : AnswerValue). most_bytes s.surface.width s.surface.height < size_of a) (is_delta (known_base e)) (omega (arith, long)))
 
-  module _ (entries : knows s.surface n ≡ false → given.changes ≡ own_repaint s.surface) where
+  -- so does one that the screen doesn't bear
+  pub hard_delta : is_repaint given ≡ false → most_work given.width given.height < work_of given.width given.height given.changes → given_for f s n ≡ repaint_of s.surface
+  hard_delta e hard = for_hard f s n (subst (λ (a : AnswerValue). most_work a.width a.height < work_of a.width a.height a.changes) (is_delta (known_base e)) hard)
+
+  module _ (entries : knows s.surface n ≡ false → given.changes ≡ own_repaint s.surface) (borne : IsBorne (sent_by s.number (repaint_of s.surface))) where
     -- a repaint is the one that is due
     zero_base : given.base ≡ 0 → given ≡ repaint_of s.surface
     zero_base z = elim (cases_Bool (knows s.surface n)) [
@@ -98,7 +125,7 @@ module _ {W : Type 0} (f : W → List ℕ → ℕ) (s : SourceValue W) (n : ℕ)
 
     -- and a repaint
     pub answers_repaint : is_repaint given ≡ true → Answers f s n given
-    answers_repaint e = made (λ fits. rw is_repaint_of (le-max_right (most_bytes s.surface.width s.surface.height) (size_of (repaint_of s.surface)))) (λ fits. is_repaint_of ∙ sym (for_unknown f s n unknown))
+    answers_repaint e = made (λ fits. rw is_repaint_of (le-max_right (most_bytes s.surface.width s.surface.height) (size_of (repaint_of s.surface)))) (λ fits. is_repaint_of ∙ sym (for_unknown f s n unknown)) (subst (λ (a : AnswerValue). IsBorne (sent_by s.number a)) (sym is_repaint_of) borne)
       where
         is_repaint_of : given ≡ repaint_of s.surface
         is_repaint_of = zero_base (eqb-true given.base 0 e)
@@ -109,11 +136,15 @@ module _ {W : Type 0} (f : W → List ℕ → ℕ) (s : SourceValue W) (n : ℕ)
           | inl known ↦ none_known s.surface n (sym (is.delta known).0 ∙ eqb-true given.base 0 e)
         ]
 
-module _ {W : Type 0} (f : W → List ℕ → ℕ) (s : SourceValue W) (n : ℕ) (sized : HasFullSize s.surface.width s.surface.height (full_of s.surface)) where
+-- a full surface bears its repaint
+pub repaint_borne : {W : Type 0} (f : W → List ℕ → ℕ) (s : SourceValue W) → s.surface.full ≡ true → IsPrintable (f s.surface.widths) (screen_of s.surface) → IsBorne (sent_by s.number (repaint_of s.surface))
+repaint_borne f s full printable = rw full (full_repaint_borne (f s.surface.widths) (full_of s.surface) printable)
+
+module _ {W : Type 0} (f : W → List ℕ → ℕ) (s : SourceValue W) (n : ℕ) (sized : HasFullSize s.surface.width s.surface.height (full_of s.surface)) (borne : IsBorne (sent_by s.number (repaint_of s.surface))) where
   -- what is given for no number answers each one whose delta has too many bytes
   answers_zero : given_for f s n ≡ repaint_of s.surface → (given : AnswerValue) → IsGivenBy full_screens f s.surface 0 given → (knows s.surface 0 ≡ false → given.changes ≡ own_repaint s.surface) → Answers f s n given
-  answers_zero long given is entries = let all = answers_repaint f s 0 given is sized entries (eq-eqb given.base 0 (is.repaint refl).0) in
-      record { asked = 0; from = inl refl; is_given = is; sized = sized; few = all.few; chosen = λ fits. all.chosen fits ∙ sym long }
+  answers_zero long given is entries = let all = answers_repaint f s 0 given is sized entries borne (eq-eqb given.base 0 (is.repaint refl).0) in
+      record { asked = 0; from = inl refl; is_given = is; sized = sized; few = all.few; chosen = λ fits. all.chosen fits ∙ sym long; borne = all.borne }
 
   pub answers_none : given_for f s n ≡ repaint_of s.surface → {E : Type 0} (r : Result AnswerValue E) → IfOk r (λ given. IsGivenBy full_screens f s.surface 0 given) → (knows s.surface 0 ≡ false → IfOk r (λ given. given.changes ≡ own_repaint s.surface)) → IfOk r (λ given. Answers f s n given)
   answers_none long (Ok given) is entries = answers_zero long given is entries
@@ -135,7 +166,7 @@ module _ {W : Type 0} (f : W → List ℕ → ℕ) (s : SourceValue W) (alike : 
   given_alike : given_for f (now s) n ≡ given_for f s n
   given_alike = elim (cases_Bool (knows s.surface n)) [
     | inr un ↦ for_unknown f (now s) n ((alike n).0 ∙ un) ∙ repaint_alike ∙ sym (for_unknown f s n un)
-    | inl known ↦ ap₂ (λ (k : Bool) (d : AnswerValue). chosen k (nat_le (length (bytes_of f s d)) (most_bytes s.surface.width s.surface.height)) d (repaint_of (now s).surface)) (alike n).0 (delta_alike known) ∙ ap (λ (r : AnswerValue). chosen (knows s.surface n) (nat_le (length (bytes_of f s (delta_of s.surface n))) (most_bytes s.surface.width s.surface.height)) (delta_of s.surface n) r) repaint_alike
+    | inl known ↦ ap₂ (λ (k : Bool) (d : AnswerValue). chosen k (is_worth f s d) d (repaint_of (now s).surface)) (alike n).0 (delta_alike known) ∙ ap (λ (r : AnswerValue). chosen (knows s.surface n) (is_worth f s (delta_of s.surface n)) (delta_of s.surface n) r) repaint_alike
   ]
     where
       repaint_alike : repaint_of (now s).surface ≡ repaint_of s.surface
@@ -185,6 +216,7 @@ module _ {W : Type 0} (f : W → List ℕ → ℕ) (s : SourceValue W) (alike : 
     from = base_is;
     carries = λ past is. given-carries full_screens (f s.surface.widths) past (full_of s.surface) (now s).surface.log a.asked given is given_now;
     few = rw (encoded, number_same s) (a.few (rw (← encoded) fits));
+    borne = a.borne;
   }
 
 -- an ask of this source names a number of it, and any other none

@@ -134,7 +134,7 @@ module _ (m : List ℕ → ℕ) (limits : Limits) (histories : ℕ → ℕ → F
   sent_of g = g.sent
 
   again_of : (g : Given) → IsGenuine m limits histories g → (rest : List ℕ) → answer_at m limits (bytes_of g ++ rest) ≡ Ok (g.sent, rest)
-  again_of g is rest = laws.again g.sent rest is.is_sent is.cells is.bytes
+  again_of g is rest = laws.again g.sent rest is.is_sent is.within
 
   are_again : (gs : List Given) → AllByRecursion (IsGenuine m limits histories) gs → AreAgain (answer_at m limits) IsCut bytes_of sent_of gs
   are_again [] each = tt

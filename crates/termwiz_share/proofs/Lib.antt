@@ -4,4 +4,6 @@ pub mod Taking
 pub mod Resumed
 pub mod Served
 mod Unlogged
+pub mod Remembered
+pub mod StillServed
 pub mod Answering

@@ -59,9 +59,11 @@ module _ (measure : List ℕ → ℕ) (limits : Limits) (kept piece : List ℕ) 
     height = leads.height;
     numbers = leads.numbers;
     taken = rw more.hand (omega (arith, leads.taken, length-append (take limits.bytes kept) extra));
+    spent = leads.spent;
+    borne = leads.borne;
     same = λ near room all.
         let e : take limits.bytes (kept ++ piece) ++ near ≡ take limits.bytes kept ++ (extra ++ near) = ap (λ (t : List ℕ). t ++ near) more.hand ∙ append_assoc (take limits.bytes kept) extra near in
-        ap (answer_in measure room limits.cells) e ∙ leads.same (extra ++ near) room (omega (arith, length-append extra near, more.sums (length near) room all)) ∙ ap (resumed_in measure room b) (sym e);
+        ap (answer_in measure room limits) e ∙ leads.same (extra ++ near) room (omega (arith, length-append extra near, more.sums (length near) room all)) ∙ ap (resumed_in measure room b) (sym e);
   }
 
   pub leads_behind : (begun : Option Begun) → IfSome begun (λ b. LeadsOn measure limits b kept) → IfSome begun (λ b. LeadsOn measure limits b (kept ++ piece))

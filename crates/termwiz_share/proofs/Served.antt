@@ -1,5 +1,5 @@
 -- A source goes on to serve its clients, whatever happens to either.
-use Rattle.std.proofs.Common.{◌≡◌, ◌⊎◌, ℕ, ◌*◌, ◌<◌, ◌≤◌, true, List, [], ◌∷◌, ◌++◌, length, Option, Result, Ok, Err, refl, sym, ap, subst, ◌∙◌, arith, inl, inr}
+use Rattle.std.proofs.Common.{◌≡◌, ◌⊎◌, ℕ, ◌*◌, true, List, [], ◌∷◌, ◌++◌, length, Option, Result, Ok, Err, refl, sym, ap, subst, ◌∙◌, arith, inl, inr}
 use Rattle.std.specs.Prelude.{◌==◌, false, None, Some, OnOk, if◌then◌else◌}
 use Rattle.std.proofs.lemmas.Bool.{cases_Bool, cases_lt, eqb-true, eq-eqb, true≢false}
 use Rattle.std.proofs.lemmas.List.{append-nil}
@@ -14,6 +14,8 @@ use Rattle.termwiz_surface.specs.Surface.{SurfaceValue, full_of}
 use Rattle.termwiz_surface.proofs.Remembering.{past-first}
 use Rattle.termwiz_surface.specs.Following as following
 use Rattle.termwiz_wire.specs.Answers.{answer_at}
+use Rattle.termwiz_wire.proofs.Bounds.{past_or_fits}
+use Rattle.termwiz_wire.specs.Within.{IsBeyond, IsWithin}
 use Rattle.termwiz_wire.specs.Sent.{answer}
 use Rattle.termwiz_wire.specs.declared.fault.Fault.{Fault}
 use Rattle.termwiz_wire.specs.declared.fault.Limits.{Limits}
@@ -209,10 +211,21 @@ module _ {W : Type 0} (f : W → List ℕ → ℕ) (s : SourceValue W) (c : Clie
   -- whatever else it shows, the response leads from there to what the source shows
   pub response_taken : (fits (shown_by c) g.sent ≡ true) × (has_other_size (shown_by c) g.sent ≡ false) × (taken m (shown_by c) g.sent ≡ record { picture = full_of s.surface; source = s.number; number = given.number })
   response_taken =
-      let limits : Limits = record { cells = given.width * given.height; bytes = length (answer m (sent_by s.number given)) } in
-      let genuine : IsGenuine m limits histories g = record { is_sent = rw serves.one_measure response.is_sent; cells = omega arith; bytes = omega arith; sized = response.sized; carries = carries } in
+      let limits : Limits = record { cells = given.width * given.height; rows = given.height; bytes = length (answer m (sent_by s.number given)) } in
+      let fits : IsWithin m limits (sent_by s.number given) = record { screen = record { cells = omega arith; rows = omega arith }; bytes = omega arith; borne = response.borne } in
+      let genuine : IsGenuine m limits histories g = record { is_sent = rw serves.one_measure response.is_sent; within = fits; sized = response.sized; carries = carries } in
       let given_as = taken_as m limits histories (shown_by c) g named genuine in
       (fits_it, given_as.1, given_as.0 ∙ rw fits_it refl)
+
+  -- the limits allow it, or it is past them
+  verdict : (limits : Limits) → IsBeyond m limits (sent_by s.number given) ⊎ IsWithin m limits (sent_by s.number given)
+  verdict limits = elim (past_or_fits limits given.width given.height) [
+    | inl many ↦ inl (inl many)
+    | inr screen ↦ elim (cases_lt limits.bytes (length (answer m (sent_by s.number given)))) [
+      | inl long ↦ inl (inr (inl long))
+      | inr few ↦ inr (record { screen = screen; bytes = few; borne = response.borne })
+    ]
+  ]
 
   nothing_left : (kept : List ℕ) → kept ++ [] ≡ [] → kept ≡ []
   nothing_left kept e = sym (append-nil kept) ∙ e
@@ -228,9 +241,9 @@ module _ {W : Type 0} (f : W → List ℕ → ℕ) (s : SourceValue W) (c : Clie
     encoded = rw serves.one_measure response.encoded
 
     -- within the limits
-    module _ (cells : given.width * given.height ≤ c.limits.cells) (few : length (answer m (sent_by s.number given)) ≤ c.limits.bytes) where
+    module _ (allowed : IsWithin m c.limits (sent_by s.number given)) where
       genuine : IsGenuine m c.limits histories g
-      genuine = record { is_sent = rw serves.one_measure response.is_sent; cells = cells; bytes = few; sized = response.sized; carries = carries }
+      genuine = record { is_sent = rw serves.one_measure response.is_sent; within = allowed; sized = response.sized; carries = carries }
 
       follows : Follows f histories (g ∷ []) c (bytes ++ [])
       follows = record {
@@ -276,7 +289,7 @@ module _ {W : Type 0} (f : W → List ℕ → ℕ) (s : SourceValue W) (c : Clie
           by (Err (errors.Size at)) h reading = absurd h
 
     -- an answer that is past the limits is a fault, and changes nothing that is shown
-    module _ (past : (c.limits.cells < given.width * given.height) ⊎ (c.limits.bytes < length (answer m (sent_by s.number given)))) where
+    module _ (past : IsBeyond m c.limits (sent_by s.number given)) where
       refusal : (x : Fault) × (answer_at m c.limits (c.kept ++ bytes) ≡ Err x) × (x.kind ≡ Limit)
       refusal =
           let r = laws.limited (sent_by s.number given) [] (rw serves.one_measure response.is_sent) past in
@@ -324,12 +337,9 @@ module _ {W : Type 0} (f : W → List ℕ → ℕ) (s : SourceValue W) (c : Clie
     pub responded : (result : Result ℕ ClientError) (new : ClientValue W) → Feeds f c bytes result new → OnOk result (Shows s new × IsReady new) × Serves f s new
     responded result new feeds =
         let widths = feeds_widths f c bytes result new feeds in
-        elim (cases_lt c.limits.cells (given.width * given.height)) [
-          | inl many ↦ beyond (inl many) result new widths feeds
-          | inr cells ↦ elim (cases_lt c.limits.bytes (length (answer m (sent_by s.number given)))) [
-            | inl long ↦ beyond (inr long) result new widths feeds
-            | inr few ↦ within cells few result new widths feeds
-          ]
+        elim (verdict c.limits) [
+          | inl past ↦ beyond past result new widths feeds
+          | inr allowed ↦ within allowed result new widths feeds
         ]
 
   -- one that has it among the bytes that it keeps
@@ -344,11 +354,11 @@ module _ {W : Type 0} (f : W → List ℕ → ℕ) (s : SourceValue W) (c : Clie
     open_next result new (inl stopped) = absurd (let bad : Some stopped.0 ≡ None = sym stopped.1 ∙ reading in let no_way : ⊥ = cc in no_way)
     open_next result new (inr t) = t.1
 
-    module _ (cells : given.width * given.height ≤ c.limits.cells) (few : length (answer m (sent_by s.number given)) ≤ c.limits.bytes) where
+    module _ (allowed : IsWithin m c.limits (sent_by s.number given)) where
       follows_kept : Follows f histories (g ∷ []) c []
       follows_kept = record {
         reading = reading;
-        genuine = (record { is_sent = rw serves.one_measure response.is_sent; cells = cells; bytes = few; sized = response.sized; carries = carries }, tt);
+        genuine = (record { is_sent = rw serves.one_measure response.is_sent; within = allowed; sized = response.sized; carries = carries }, tt);
         whole = ap (λ (t : List ℕ). t ++ []) kept_encoded;
         named = named;
       }
@@ -376,7 +386,7 @@ module _ {W : Type 0} (f : W → List ℕ → ℕ) (s : SourceValue W) (c : Clie
       next_within (Err (errors.Size at)) new widths h = absurd h
 
     -- past the limits it is a fault
-    module _ (past : (c.limits.cells < given.width * given.height) ⊎ (c.limits.bytes < length (answer m (sent_by s.number given)))) where
+    module _ (past : IsBeyond m c.limits (sent_by s.number given)) where
       kept_refusal : (x : Fault) × (answer_at m c.limits c.kept ≡ Err x) × (x.kind ≡ Limit)
       kept_refusal =
           let r = laws.limited (sent_by s.number given) [] (rw serves.one_measure response.is_sent) past in
@@ -402,10 +412,7 @@ module _ {W : Type 0} (f : W → List ℕ → ℕ) (s : SourceValue W) (c : Clie
     pub responded_next : (result : Result (Option Taken) ClientError) (new : ClientValue W) → TakesNext f c result new → Answered result new
     responded_next result new t =
         let step = open_next result new t in
-        elim (cases_lt c.limits.cells (given.width * given.height)) [
-          | inl many ↦ next_beyond (inl many) result new step
-          | inr cells ↦ elim (cases_lt c.limits.bytes (length (answer m (sent_by s.number given)))) [
-            | inl long ↦ next_beyond (inr long) result new step
-            | inr few ↦ next_within cells few result new (step_widths f c result new step) (follows_next f histories (g ∷ []) [] c laws (follows_kept cells few) result new t)
-          ]
+        elim (verdict c.limits) [
+          | inl past ↦ next_beyond past result new step
+          | inr allowed ↦ next_within allowed result new (step_widths f c result new step) (follows_next f histories (g ∷ []) [] c laws (follows_kept allowed) result new t)
         ]

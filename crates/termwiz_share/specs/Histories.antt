@@ -1,15 +1,19 @@
 -- Streams of answers of many sources, and what a client shows of them. Each source has a history,
 -- which says what its numbers name.
-use Rattle.std.specs.Prelude.{◌≡◌, ◌⊎◌, ℕ, ◌*◌, ◌<◌, ◌≤◌, true, false, List, [], ◌∷◌, ◌++◌, length, Option, Some, None, Result, Ok, Err, fold, if◌then◌else◌}
+use Rattle.std.specs.Prelude.{◌≡◌, ◌⊎◌, ℕ, ◌<◌, ◌≤◌, true, false, List, [], ◌∷◌, ◌++◌, length, Option, Some, None, Result, Ok, Err, fold, if◌then◌else◌}
 use Rattle.std.specs.List.{AllByRecursion, flat_map}
 use Rattle.termwiz_screen.specs.FullScreen.{FullScreen, HasFullSize}
+use Rattle.termwiz_screen.specs.Log.{next_number}
 use Rattle.termwiz_screen.specs.Picture.{full_screens}
 use Rattle.termwiz_surface.specs.Answer.{Carries}
+use Rattle.termwiz_surface.specs.Carried.{IsPastOf}
 use Rattle.termwiz_surface.specs.History.{Names}
 use Rattle.termwiz_wire.specs.Sent.{IsSent, answer}
+use Rattle.termwiz_wire.specs.Within.{IsWithin}
 use Rattle.termwiz_wire.specs.declared.fault.Limits.{Limits}
 use Rattle.termwiz_wire.specs.declared.sent.SentAnswer.{SentAnswer}
 use Rattle.termwiz_share.specs.Client.{ClientValue, Shown, fits, shown_by, stale_place}
+use Rattle.termwiz_share.specs.Source.{SourceValue}
 use Rattle.termwiz_share.specs.declared.error.ClientError.{ClientError}
 use Rattle.termwiz_share.specs.declared.error.ClientError.TheVariants as errors
 use Rattle.termwiz_share.specs.declared.taken.Taken.{Taken}
@@ -46,8 +50,7 @@ module _ (measure : List ℕ → ℕ) where
     -- screen; and it is within the limits
     pub record IsGenuine (g : Given) : Type 0 where
       pub is_sent : IsSent measure g.sent
-      pub cells : g.sent.answer.width * g.sent.answer.height ≤ limits.cells
-      pub bytes : length (answer measure g.sent) ≤ limits.bytes
+      pub within : IsWithin measure limits g.sent
       pub sized : HasFullSize g.sent.answer.width g.sent.answer.height g.shown
       pub carries : Carries full_screens measure (histories g.sent.source) g.sent.answer g.shown
 
@@ -91,6 +94,16 @@ module _ {W : Type 0} (measure_of : W → List ℕ → ℕ) (histories : ℕ →
   FollowsTo future old (Err errors.Numbers) new = HasStopped old new
   FollowsTo future old (Err errors.Memory) new = HasStopped old new
   FollowsTo future old (Err _) new = ⊥
+
+-- a source whose numbers name this history, and which gave those of these answers that are of it
+pub record HasGiven {W : Type 0} (measure_of : W → List ℕ → ℕ) (histories : ℕ → ℕ → FullScreen)
+    (sent : List Given) (s : SourceValue W) : Type 0 where
+  pub is_past : IsPastOf full_screens measure_of (histories s.number) s.surface
+  -- their numbers are ones that it had
+  pub had :
+      AllByRecursion
+      (λ (g : Given). g.sent.source ≡ s.number → g.sent.answer.number ≤ next_number s.surface.log)
+      sent
 
 -- of one answer at a time
 module _ {W : Type 0} (measure_of : W → List ℕ → ℕ) (histories : ℕ → ℕ → FullScreen)

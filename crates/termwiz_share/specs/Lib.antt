@@ -15,6 +15,7 @@ pub use Rattle.termwiz_surface.specs.Copies.{IsCopied, IsRegionDrawn, IsDrawn, c
 pub use Rattle.termwiz_surface.specs.Unlogged.{AddsUnlogged, lent_value}
 pub use Rattle.termwiz_surface.specs.Diffs.{HasCopied, HasDrawn}
 pub use Rattle.termwiz_surface.specs.Following.{KeepsViewers}
+pub use Rattle.termwiz_surface.specs.History.{KeepsNames}
 pub use Rattle.termwiz_surface.specs.Resizing.{Resizes}
 pub use Rattle.termwiz_surface.specs.RowNumbers.{NumbersRows}
 pub use Rattle.termwiz_surface.specs.ScrolledOff.{AddsScrolledOff, rows_scrolled_off}
@@ -27,5 +28,5 @@ pub use Rattle.termwiz_wire.specs.declared.fault.Fault.{Fault}
 pub use Rattle.termwiz_share.specs.Source.{Answers, IsResponse, Responds, SourceValue, most_bytes, response_bytes, sent_by, trimmed}
 pub use Rattle.termwiz_share.specs.Client.{ClientValue, DisplayValue, IsReady, ask_of, fits, shown_by, shown_on, size_place, stale_place}
 pub use Rattle.termwiz_share.specs.Feeding.{EndsHere, Feeds, Keeps, Reads, Steps, Takes, TakesNext, nameless, refusal}
-pub use Rattle.termwiz_share.specs.Histories.{Follows, FollowsNext, FollowsTo, Given}
+pub use Rattle.termwiz_share.specs.Histories.{Follows, FollowsNext, FollowsTo, Given, HasGiven}
 pub use Rattle.termwiz_share.specs.Serving.{KeepsClients, KeepsSources, Serves, Shows}

@@ -9,6 +9,8 @@ use Rattle.termwiz_surface.specs.Asking.{forgotten, knows, own_repaint}
 use Rattle.termwiz_surface.specs.Carried.{CarriesTo, IsGivenBy, IsPastOf}
 use Rattle.termwiz_surface.specs.Surface.{SurfaceValue, full_of}
 use Rattle.termwiz_wire.specs.Sent.{IsSent, answer}
+use Rattle.termwiz_wire.specs.Within.{IsBorne}
+use Rattle.termwiz_wire.specs.Work.{most_work, work_of}
 use Rattle.termwiz_wire.specs.declared.sent.Ask.{Ask}
 use Rattle.termwiz_wire.specs.declared.sent.SentAnswer.{SentAnswer}
 
@@ -63,12 +65,15 @@ module _ {W : Type 0} where
     abbrev pub bytes_of : SourceValue W → AnswerValue → List ℕ
     bytes_of s a = answer (measure_of s.surface.widths) (sent_by s.number a)
 
+    -- whether a delta is worth sending: it has few bytes, and the screen bears its changes
+    abbrev pub is_worth : SourceValue W → AnswerValue → Bool
+    is_worth s a =
+        nat_le (length (bytes_of s a)) (most_bytes s.surface.width s.surface.height) &&
+        nat_le (work_of a.width a.height a.changes) (most_work a.width a.height)
+
     -- the number is known, and what is due from it on is worth sending
     abbrev pub has_delta : SourceValue W → ℕ → Bool
-    has_delta s n =
-        knows s.surface n &&
-        nat_le (length (bytes_of s (delta_of s.surface n)))
-        (most_bytes s.surface.width s.surface.height)
+    has_delta s n = knows s.surface n && is_worth s (delta_of s.surface n)
 
     -- what the source gives for a number
     abbrev pub given_for : SourceValue W → ℕ → AnswerValue
@@ -96,6 +101,8 @@ module _ {W : Type 0} where
       pub few :
           length bytes ≤ max (most_bytes s.surface.width s.surface.height)
           (length (bytes_of s (repaint_of s.surface)))
+      -- and bears it
+      pub borne : IsBorne (sent_by s.number given)
 
     -- the source gives this answer for a number, or for none
     pub record Answers (s : SourceValue W) (n : ℕ) (given : AnswerValue) : Type 0 where
@@ -109,6 +116,7 @@ module _ {W : Type 0} where
           length (bytes_of s given) ≤ max (most_bytes s.surface.width s.surface.height)
           (length (bytes_of s (repaint_of s.surface)))
       pub chosen : length (bytes_of s given) < 2 ^ 64 → given ≡ given_for s n
+      pub borne : IsBorne (sent_by s.number given)
 
     -- the response comes behind what the buffer had
     pub record Responds (s : SourceValue W) (ask : Ask) (before after : List ℕ) : Type 0 where

@@ -2,7 +2,8 @@
 ghost use Rattle.std.specs.Prelude.{◌≡◌, ◌<◌, ◌^◌, ◌++◌, [], IfOk, IsSome, List, None, Ok, OnErr};
 ghost use Rattle.std.specs.Prelude.{OnOk, Some, length, ℕ};
 ghost use Rattle.termwiz_share.specs.{ClientValue, EndsHere, Feeds, Follows, FollowsNext};
-ghost use Rattle.termwiz_share.specs.{FollowsTo, FullScreen, Given, IsAsk, IsReady, IsResponse, Keeps};
+ghost use Rattle.termwiz_share.specs.{FollowsTo, FullScreen, Given, HasGiven, IsAsk, IsReady};
+ghost use Rattle.termwiz_share.specs.{IsResponse, Keeps};
 ghost use Rattle.termwiz_share.specs.{KeepsSources, NumbersRows, Reads, Serves, Shows};
 ghost use Rattle.termwiz_share.specs.{SourceValue, Steps, TakesNext};
 ghost use Rattle.termwiz_share.specs.{ask, ask_of, blank_surface, measure, refusal, true};
@@ -171,6 +172,14 @@ impl<W: Widths> Client<W> {
         ensures follows { (histories : ℕ → ℕ → FullScreen) (sent : List Given) (future : List ℕ) →
             Follows (measure W.width_of) histories sent self.old (piece.now ++ future) →
             FollowsTo (measure W.width_of) histories sent future self.old result self.new }
+        // Of such a stream, whole or cut or late, it is served by the sources that gave the
+        // answers, after an error too.
+        ensures served { (histories : ℕ → ℕ → FullScreen) (sent : List Given) (future : List ℕ)
+            (source : SourceValue W) →
+            Follows (measure W.width_of) histories sent self.old (piece.now ++ future) →
+            HasGiven (measure W.width_of) histories sent source →
+            Serves (measure W.width_of) source self.old →
+            Serves (measure W.width_of) source self.new }
         // A client that is fed the response to its ask shows what the source shows,
         ensures shows { (source : SourceValue W) → Serves (measure W.width_of) source self.old →
             IsReady self.old →

@@ -4,7 +4,8 @@ ghost use Rattle.std.specs.Prelude.{OnErr, OnOk, ℕ, min, vec_len};
 ghost use Rattle.termwiz_share.specs.{Adds, AddsScrolledOff, AddsUnlogged, Answers, ClientValue};
 ghost use Rattle.termwiz_share.specs.{HasCopied, HasDrawn, IsCopied, IsDrawn, IsRegionDrawn};
 ghost use Rattle.termwiz_share.specs.{IsResponse};
-ghost use Rattle.termwiz_share.specs.{IsSurfaceSize, KeepsClients, KeepsViewers, NumbersRows};
+ghost use Rattle.termwiz_share.specs.{IsSurfaceSize, KeepsClients, KeepsNames, KeepsViewers};
+ghost use Rattle.termwiz_share.specs.{NumbersRows};
 ghost use Rattle.termwiz_share.specs.{Resizes, Responds, ScrollRegion, Serves, SourceValue};
 ghost use Rattle.termwiz_share.specs.{blank_surface, flushed, lent_value};
 ghost use Rattle.termwiz_share.specs.{change_value, copied_region, length, map, measure};
@@ -16,7 +17,7 @@ use std::marker::Model;
 use termwiz_cell::change::{Change, SEQ_ZERO, SequenceNo};
 use termwiz_cell::emoji::Widths;
 use termwiz_surface::{Answer, LentChange, Scrollback, Surface, SurfaceError};
-use termwiz_wire::{Ask, SourceNo, encode_answer, encoded_len};
+use termwiz_wire::{Ask, SourceNo, encode_answer, encoded_len, is_borne};
 
 /// A full surface that clients show, with a number that names it among all sources that a client
 /// may hear of: one of 64 random bits serves.
@@ -89,6 +90,9 @@ impl<W: Widths> Source<W> {
         ensures number { self.new.number ≡ self.old.number }
         // It still serves each client that it serves, even after an error.
         ensures serves { KeepsClients (measure W.width_of) self.old self.new }
+        // What each number named it names still, even after an error.
+        ensures remembered { KeepsNames (measure W.width_of self.old.surface.widths)
+            self.old.surface self.new.surface }
         // Each viewer that follows the surface still follows it, even after an error.
         ensures followed { KeepsViewers (measure W.width_of) self.old.surface self.new.surface }
         // A row whose number isn't above one that the surface had is as it was then.
@@ -106,6 +110,9 @@ impl<W: Widths> Source<W> {
             result self.new.surface }
         ensures number { self.new.number ≡ self.old.number }
         ensures serves { KeepsClients (measure W.width_of) self.old self.new }
+        // What each number named it names still, even after an error.
+        ensures remembered { KeepsNames (measure W.width_of self.old.surface.widths)
+            self.old.surface self.new.surface }
         // Each viewer that follows the surface still follows it, even after an error.
         ensures followed { KeepsViewers (measure W.width_of) self.old.surface self.new.surface }
         // A row whose number isn't above one that the surface had is as it was then.
@@ -133,6 +140,9 @@ impl<W: Widths> Source<W> {
             result scrollback.old.lines.items scrollback.new.lines.items }
         ensures number { self.new.number ≡ self.old.number }
         ensures serves { KeepsClients (measure W.width_of) self.old self.new }
+        // What each number named it names still, even after an error.
+        ensures remembered { KeepsNames (measure W.width_of self.old.surface.widths)
+            self.old.surface self.new.surface }
         // Each viewer that follows the surface still follows it, even after an error.
         ensures followed { KeepsViewers (measure W.width_of) self.old.surface self.new.surface }
         // A row whose number isn't above one that the surface had is as it was then.
@@ -150,6 +160,9 @@ impl<W: Widths> Source<W> {
             result self.new.surface }
         ensures number { self.new.number ≡ self.old.number }
         ensures serves { KeepsClients (measure W.width_of) self.old self.new }
+        // What each number named it names still, even after an error.
+        ensures remembered { KeepsNames (measure W.width_of self.old.surface.widths)
+            self.old.surface self.new.surface }
         // Each viewer that follows the surface still follows it, even after an error.
         ensures followed { KeepsViewers (measure W.width_of) self.old.surface self.new.surface }
         // A row whose number isn't above one that the surface had is as it was then.
@@ -167,6 +180,9 @@ impl<W: Widths> Source<W> {
             result self.new.surface }
         ensures number { self.new.number ≡ self.old.number }
         ensures serves { KeepsClients (measure W.width_of) self.old self.new }
+        // What each number named it names still, even after an error.
+        ensures remembered { KeepsNames (measure W.width_of self.old.surface.widths)
+            self.old.surface self.new.surface }
         // Each viewer that follows the surface still follows it, even after an error.
         ensures followed { KeepsViewers (measure W.width_of) self.old.surface self.new.surface }
         // A row whose number isn't above one that the surface had is as it was then.
@@ -194,6 +210,9 @@ impl<W: Widths> Source<W> {
             result scrollback.old.lines.items scrollback.new.lines.items }
         ensures number { self.new.number ≡ self.old.number }
         ensures serves { KeepsClients (measure W.width_of) self.old self.new }
+        // What each number named it names still, even after an error.
+        ensures remembered { KeepsNames (measure W.width_of self.old.surface.widths)
+            self.old.surface self.new.surface }
         // Each viewer that follows the surface still follows it, even after an error.
         ensures followed { KeepsViewers (measure W.width_of) self.old.surface self.new.surface }
         // A row whose number isn't above one that the surface had is as it was then.
@@ -221,6 +240,9 @@ impl<W: Widths> Source<W> {
         ensures no_scroll { result ≡ Err ScrollRegion → ⊥ }
         ensures number { self.new.number ≡ self.old.number }
         ensures serves { KeepsClients (measure W.width_of) self.old self.new }
+        // What each number named it names still, even after an error.
+        ensures remembered { KeepsNames (measure W.width_of self.old.surface.widths)
+            self.old.surface self.new.surface }
         // Each viewer that follows the surface still follows it, even after an error.
         ensures followed { KeepsViewers (measure W.width_of) self.old.surface self.new.surface }
         // A row whose number isn't above one that the surface had is as it was then.
@@ -251,6 +273,9 @@ impl<W: Widths> Source<W> {
         ensures no_scroll { result ≡ Err ScrollRegion → ⊥ }
         ensures number { self.new.number ≡ self.old.number }
         ensures serves { KeepsClients (measure W.width_of) self.old self.new }
+        // What each number named it names still, even after an error.
+        ensures remembered { KeepsNames (measure W.width_of self.old.surface.widths)
+            self.old.surface self.new.surface }
         // Each viewer that follows the surface still follows it, even after an error.
         ensures followed { KeepsViewers (measure W.width_of) self.old.surface self.new.surface }
         // A row whose number isn't above one that the surface had is as it was then.
@@ -285,6 +310,9 @@ impl<W: Widths> Source<W> {
         ensures no_scroll { result ≡ Err ScrollRegion → ⊥ }
         ensures number { self.new.number ≡ self.old.number }
         ensures serves { KeepsClients (measure W.width_of) self.old self.new }
+        // What each number named it names still, even after an error.
+        ensures remembered { KeepsNames (measure W.width_of self.old.surface.widths)
+            self.old.surface self.new.surface }
         // Each viewer that follows the surface still follows it, even after an error.
         ensures followed { KeepsViewers (measure W.width_of) self.old.surface self.new.surface }
         // A row whose number isn't above one that the surface had is as it was then.
@@ -301,6 +329,9 @@ impl<W: Widths> Source<W> {
         ensures resizes { Resizes self.old.surface width height result self.new.surface }
         ensures number { self.new.number ≡ self.old.number }
         ensures serves { KeepsClients (measure W.width_of) self.old self.new }
+        // What each number named it names still, even after an error.
+        ensures remembered { KeepsNames (measure W.width_of self.old.surface.widths)
+            self.old.surface self.new.surface }
         // Each viewer that follows the surface still follows it, even after an error.
         ensures followed { KeepsViewers (measure W.width_of) self.old.surface self.new.surface }
         // A row whose number isn't above one that the surface had is as it was then.
@@ -316,6 +347,9 @@ impl<W: Widths> Source<W> {
           surface = with_log self.old.surface (flushed self.old.surface.log seq);
         } }
         ensures serves { KeepsClients (measure W.width_of) self.old self.new }
+        // What each number named it names still, even after an error.
+        ensures remembered { KeepsNames (measure W.width_of self.old.surface.widths)
+            self.old.surface self.new.surface }
         // Each viewer that follows the surface still follows it.
         ensures followed { KeepsViewers (measure W.width_of) self.old.surface self.new.surface }
         // A row whose number isn't above one that the surface had is as it was then.
@@ -325,15 +359,16 @@ impl<W: Widths> Source<W> {
     }
 
     /// Appends the answer for an ask to a buffer: a delta, which has the changes from the ask's
-    /// number on, where the ask names this source, the log has these changes, and the whole delta
-    /// has at most 64 bytes and 4 for each cell; and else a repaint.
+    /// number on, where the ask names this source, the log has these changes, the whole delta, its
+    /// head included, has at most 64 bytes and 4 for each cell, and the screen bears its changes
+    /// (see `termwiz_wire::is_borne`); and else a repaint, whose changes the screen bears too.
     ///
     /// After an error the source is as it was, and the buffer begins with what it had.
     pub fn respond(&mut self, ask: Ask, out: &mut Vec<u8>) -> Result<(), AllocError>
         ensures ok { OnOk result (
             Responds (measure W.width_of) self.new ask out.old.items out.new.items) }
         // It is the delta that is due exactly where the ask names a number of this source that is
-        // known, and the delta has no more bytes than that.
+        // known, and the delta has no more bytes than that, and costs no more than the screen bears.
         ensures given { OnOk result (out.new.items
             ≡ out.old.items ++ response_bytes (measure W.width_of) self.new ask) }
         // Into an empty buffer it is the response alone.
@@ -344,6 +379,9 @@ impl<W: Widths> Source<W> {
         ensures err { OnErr result (self.new ≡ self.old) }
         ensures begins { OnErr result ((more : List ℕ) × (out.new.items ≡ out.old.items ++ more)) }
         ensures serves { KeepsClients (measure W.width_of) self.old self.new }
+        // What each number named it names still, even after an error.
+        ensures remembered { KeepsNames (measure W.width_of self.old.surface.widths)
+            self.old.surface self.new.surface }
         // Each viewer that follows the surface still follows it, even after an error.
         ensures followed { KeepsViewers (measure W.width_of) self.old.surface self.new.surface }
         // A row whose number isn't above one that the surface had is as it was then.
@@ -360,7 +398,8 @@ impl<W: Widths> Source<W> {
         Ok(())
     }
 
-    // The answer for a number, which is a repaint too where the changes have too many bytes.
+    // The answer for a number, which is a repaint too where the changes have too many bytes, or
+    // would cost too much.
     fn answer(&self, from: SequenceNo) -> Result<Answer, AllocError>
         ensures { IfOk result (λ given. Answers (measure W.width_of) self.now from given) }
     {
@@ -369,9 +408,11 @@ impl<W: Widths> Source<W> {
         if answer.is_repaint() {
             return Ok(answer);
         }
-        let bytes = encoded_len(&self.surface.widths(), self.number, &answer);
-        if bytes <= most_bytes(width, height) {
-            return Ok(answer);
+        if is_borne(&answer) {
+            let bytes = encoded_len(&self.surface.widths(), self.number, &answer);
+            if bytes <= most_bytes(width, height) {
+                return Ok(answer);
+            }
         }
         self.surface.answer(SEQ_ZERO)
     }

@@ -1,6 +1,6 @@
 -- An answer or an ask that is decoded was encoded so.
-use Rattle.std.proofs.Common.{◌≡◌, ℕ, zero, suc, false, ◌+◌, ◌*◌, ◌≤◌, ◌<◌, ◌^◌, true, cond, eqb, ltb, ◌&&◌, not, List, [], ◌++◌, length, Some, None, Result, Ok, refl, ap, subst, ◌∙◌, arith}
-use Rattle.std.proofs.lemmas.Bool.{eqb-true, ltb-false}
+use Rattle.std.proofs.Common.{◌≡◌, ℕ, zero, suc, false, ◌+◌, ◌≤◌, ◌<◌, ◌^◌, true, cond, eqb, ltb, ◌&&◌, not, List, [], ◌++◌, length, Some, None, Result, Ok, refl, ap, subst, ◌∙◌, arith}
+use Rattle.std.proofs.lemmas.Bool.{eqb-true}
 use Rattle.std.proofs.lemmas.List.{length-append}
 use Rattle.cbor.specs.declared.error.FaultKind.TheVariants as faults
 use Rattle.cbor.specs.Encoding.{unsigned, array}
@@ -13,10 +13,14 @@ use Rattle.termwiz_wire.specs.Cuts.{refused}
 use Rattle.termwiz_wire.specs.Encoding.{changes}
 use Rattle.termwiz_wire.specs.Answers.{Halt, version_at, body_at, opened_at, source_at, size_at, height_at, number_at, head_at, halted, each_at, sent_of, answer_in, asked_at, ask_in}
 use Rattle.termwiz_wire.specs.Sent.{answer, ask}
+use Rattle.termwiz_wire.specs.Screens.{FitsLimits, is_past}
+use Rattle.termwiz_wire.specs.Within.{IsBorne}
+use Rattle.termwiz_wire.specs.declared.fault.Limits.{Limits}
 use Rattle.termwiz_wire.specs.declared.sent.SentAnswer.{SentAnswer}
 use Rattle.termwiz_wire.specs.declared.sent.Ask.{Ask}
 use Rattle.termwiz_wire.specs.declared.decode.heads.Head.{Head}
 use Rattle.termwiz_wire.proofs.Bounded.{changes-some}
+use Rattle.termwiz_wire.proofs.Bounds.{fits_of}
 use Rattle.termwiz_wire.proofs.Each.{halted_ok, listed_takes}
 use Rattle.termwiz_wire.proofs.Rows.{regions_of}
 use Rattle.termwiz_wire.proofs.Steps.{stopped, number_takes, let_takes}
@@ -60,12 +64,12 @@ size_takes room bytes x fits e =
     let g = guard_ok (eqb a.0.0 0) (stopped faults.Range room bytes) a.0 x a.2 in
     subst (λ (y : ℕ × List ℕ). Takes bytes (unsigned y.0) y.1) g.1 (number_takes room (2 ^ 32) bytes a.0 fits a.1).0
 
-height_takes : (room cells width : ℕ) (bytes : List ℕ) (x : ℕ × List ℕ) → IsBytes bytes → height_at room cells width bytes ≡ Ok x → Takes bytes (unsigned x.0) x.1 × (width * x.0 ≤ cells)
+height_takes : (room : ℕ) (limits : Limits) (width : ℕ) (bytes : List ℕ) (x : ℕ × List ℕ) → IsBytes bytes → height_at room limits width bytes ≡ Ok x → Takes bytes (unsigned x.0) x.1 × FitsLimits limits width x.0
 unfolding height_at
-height_takes room cells width bytes x fits e =
-    let a = bind_ok (size_at room bytes) (λ n. cond (ltb cells (width * n.0)) (refused faults.Limit room bytes) (Ok n)) x e in
-    let g = guard_ok (ltb cells (width * a.0.0)) (stopped faults.Limit room bytes) a.0 x a.2 in
-    subst (λ (y : ℕ × List ℕ). Takes bytes (unsigned y.0) y.1 × (width * y.0 ≤ cells)) g.1 (size_takes room bytes a.0 fits a.1, ltb-false _ _ g.0)
+height_takes room limits width bytes x fits e =
+    let a = bind_ok (size_at room bytes) (λ n. cond (is_past limits width n.0) (refused faults.Limit room bytes) (Ok n)) x e in
+    let g = guard_ok (is_past limits width a.0.0) (stopped faults.Limit room bytes) a.0 x a.2 in
+    subst (λ (y : ℕ × List ℕ). Takes bytes (unsigned y.0) y.1 × FitsLimits limits width y.0) g.1 (size_takes room bytes a.0 fits a.1, fits_of limits width a.0.0 g.0)
 
 number_found : (room base : ℕ) (bytes : List ℕ) (x : ℕ × List ℕ) → IsBytes bytes → number_at room base bytes ≡ Ok x → Takes bytes (unsigned x.0) x.1
 unfolding number_at
@@ -85,39 +89,39 @@ from_base room s w h b = number_at room b.0 b.1 >>= λ n. from_number room s w h
 abbrev from_height : ℕ → ℕ → ℕ → ℕ × List ℕ → Read
 from_height room s w h = unsigned_at room h.1 >>= λ b. from_base room s w h.0 b
 
-abbrev from_width : ℕ → ℕ → ℕ → ℕ × List ℕ → Read
-from_width room cells s w = height_at room cells w.0 w.1 >>= λ h. from_height room s w.0 h
+abbrev from_width : ℕ → Limits → ℕ → ℕ × List ℕ → Read
+from_width room limits s w = height_at room limits w.0 w.1 >>= λ h. from_height room s w.0 h
 
-abbrev from_source : ℕ → ℕ → ℕ × List ℕ → Read
-from_source room cells s = size_at room s.1 >>= λ w. from_width room cells s.0 w
+abbrev from_source : ℕ → Limits → ℕ × List ℕ → Read
+from_source room limits s = size_at room s.1 >>= λ w. from_width room limits s.0 w
 
 -- the bytes of a head, but for the number of changes
 abbrev pub head_bytes : Head → List ℕ
 head_bytes x = array 7 ++ unsigned 2 ++ unsigned x.source ++ unsigned x.width ++ unsigned x.height ++ unsigned x.base ++ unsigned x.number
 
-pub record HeadFound (cells : ℕ) (bytes : List ℕ) (x : Head × List ℕ) : Type 0 where
+pub record HeadFound (limits : Limits) (bytes : List ℕ) (x : Head × List ℕ) : Type 0 where
   -- before the number of changes
   pub middle : List ℕ
   pub front : Takes bytes (head_bytes x.0) middle
   pub listed : Takes middle (array x.0.count) x.1
   pub count : x.0.count < 2 ^ 64
-  pub few : x.0.width * x.0.height ≤ cells
+  pub few : FitsLimits limits x.0.width x.0.height
   pub named : 0 < x.0.source
 
-pub head_takes : (room cells : ℕ) (bytes : List ℕ) (x : Head × List ℕ) → IsBytes bytes → head_at room cells bytes ≡ Ok x → HeadFound cells bytes x
+pub head_takes : (room : ℕ) (limits : Limits) (bytes : List ℕ) (x : Head × List ℕ) → IsBytes bytes → head_at room limits bytes ≡ Ok x → HeadFound limits bytes x
 unfolding head_at
-head_takes room cells bytes x fits e =
-    let body = bind_ok (opened_at room 7 bytes) (λ body. source_at room body >>= λ s. from_source room cells s) x e in
-    let s = bind_ok (source_at room body.0) (λ s. from_source room cells s) x body.2 in
-    let w = bind_ok (size_at room s.0.1) (λ w. from_width room cells s.0.0 w) x s.2 in
-    let h = bind_ok (height_at room cells w.0.0 w.0.1) (λ h. from_height room s.0.0 w.0.0 h) x w.2 in
+head_takes room limits bytes x fits e =
+    let body = bind_ok (opened_at room 7 bytes) (λ body. source_at room body >>= λ s. from_source room limits s) x e in
+    let s = bind_ok (source_at room body.0) (λ s. from_source room limits s) x body.2 in
+    let w = bind_ok (size_at room s.0.1) (λ w. from_width room limits s.0.0 w) x s.2 in
+    let h = bind_ok (height_at room limits w.0.0 w.0.1) (λ h. from_height room s.0.0 w.0.0 h) x w.2 in
     let b = bind_ok (unsigned_at room h.0.1) (λ b. from_base room s.0.0 w.0.0 h.0.0 b) x h.2 in
     let n = bind_ok (number_at room b.0.0 b.0.1) (λ n. from_number room s.0.0 w.0.0 h.0.0 b.0.0 n) x b.2 in
     let c = bind_ok (list_at room n.0.1) (λ c. ok (record { source = s.0.0; width = w.0.0; height = h.0.0; base = b.0.0; number = n.0.0; count = c.0 }) c.1) x n.2 in
     let t0 = opened_takes room 7 bytes body.0 fits body.1 in
     let ts = source_takes room body.0 s.0 t0.rest_fits s.1 in
     let tw = size_takes room s.0.1 w.0 ts.0.rest_fits w.1 in
-    let th = height_takes room cells w.0.0 w.0.1 h.0 tw.rest_fits h.1 in
+    let th = height_takes room limits w.0.0 w.0.1 h.0 tw.rest_fits h.1 in
     let tb = unsigned_takes room h.0.1 b.0 th.0.rest_fits b.1 in
     let tn = number_found room b.0.0 b.0.1 n.0 tb.0.rest_fits n.1 in
     let tc = list_takes room n.0.1 c.0 tn.rest_fits c.1 in
@@ -127,41 +131,42 @@ head_takes room cells bytes x fits e =
     let b1 = Takes-then bytes (array 7 ++ unsigned 2 ++ unsigned s.0.0 ++ unsigned w.0.0 ++ unsigned h.0.0) h.0.1 (unsigned b.0.0) b.0.1 h1 tb.0 in
     let n1 = Takes-then bytes (array 7 ++ unsigned 2 ++ unsigned s.0.0 ++ unsigned w.0.0 ++ unsigned h.0.0 ++ unsigned b.0.0) b.0.1 (unsigned n.0.0) n.0.1 b1 tn in
     let made : Head = record { source = s.0.0; width = w.0.0; height = h.0.0; base = b.0.0; number = n.0.0; count = c.0.0 } in
-    subst (λ (y : Head × List ℕ). HeadFound cells bytes y) (ok_is {A = Head × List ℕ} {E = Stop} (made, c.0.1) x c.2)
+    subst (λ (y : Head × List ℕ). HeadFound limits bytes y) (ok_is {A = Head × List ℕ} {E = Stop} (made, c.0.1) x c.2)
     (record { middle = n.0.1; front = n1; listed = tc.0; count = tc.1; few = th.1; named = ts.1 })
 
 -- ---- answers
 
-pub record AnswerFound (measure : List ℕ → ℕ) (cells : ℕ) (bytes : List ℕ) (x : SentAnswer × List ℕ) : Type 0 where
+pub record AnswerFound (measure : List ℕ → ℕ) (limits : Limits) (bytes : List ℕ) (x : SentAnswer × List ℕ) : Type 0 where
   pub taken : Takes bytes (answer measure x.0) x.1
-  pub few : x.0.answer.width * x.0.answer.height ≤ cells
+  pub few : FitsLimits limits x.0.answer.width x.0.answer.height
   pub named : 0 < x.0.source
+  pub borne : IsBorne x.0
 
-pub answer_takes : (measure : List ℕ → ℕ) (room cells : ℕ) (bytes : List ℕ) (x : SentAnswer × List ℕ) → IsBytes bytes → answer_in measure room cells bytes ≡ Ok x → AnswerFound measure cells bytes x
+pub answer_takes : (measure : List ℕ → ℕ) (room : ℕ) (limits : Limits) (bytes : List ℕ) (x : SentAnswer × List ℕ) → IsBytes bytes → answer_in measure room limits bytes ≡ Ok x → AnswerFound measure limits bytes x
 unfolding answer_in answer
-answer_takes measure room cells bytes x fits e =
-    let head = bind_ok (halted None (head_at room cells bytes)) (λ head. each_at measure room (Some head.0.height) [] head.0.count head.1 >>= λ changes. ok (sent_of head.0 changes.0) changes.1) x e in
-    let cs = bind_ok (each_at measure room (Some head.0.0.height) [] head.0.0.count head.0.1) (λ changes. ok (sent_of head.0.0 changes.0) changes.1) x head.2 in
-    let th = head_takes room cells bytes head.0 fits (halted_ok None (head_at room cells bytes) head.0 head.1) in
-    let tc = listed_takes measure room (Some head.0.0.height) head.0.0.count th.middle head.0.1 cs.0 th.listed th.count cs.1 in
+answer_takes measure room limits bytes x fits e =
+    let head = bind_ok (halted None (head_at room limits bytes)) (λ head. each_at measure room (Some head.0) [] head.0.count head.1 >>= λ changes. ok (sent_of head.0 changes.0) changes.1) x e in
+    let cs = bind_ok (each_at measure room (Some head.0.0) [] head.0.0.count head.0.1) (λ changes. ok (sent_of head.0.0 changes.0) changes.1) x head.2 in
+    let th = head_takes room limits bytes head.0 fits (halted_ok None (head_at room limits bytes) head.0 head.1) in
+    let tc = listed_takes measure room (Some head.0.0) head.0.0.count th.middle head.0.1 cs.0 th.listed th.count cs.1 in
     let all = Takes-then bytes (head_bytes head.0.0) th.middle (changes measure cs.0.0) cs.0.1 th.front tc.0 in
-    subst (λ (y : SentAnswer × List ℕ). AnswerFound measure cells bytes y) (ok_is {A = SentAnswer × List ℕ} {E = Halt} (sent_of head.0.0 cs.0.0, cs.0.1) x cs.2)
-    (record { taken = all; few = th.few; named = th.named })
+    subst (λ (y : SentAnswer × List ℕ). AnswerFound measure limits bytes y) (ok_is {A = SentAnswer × List ℕ} {E = Halt} (sent_of head.0.0 cs.0.0, cs.0.1) x cs.2)
+    (record { taken = all; few = th.few; named = th.named; borne = tc.3 })
 
 -- the regions of what was decoded lie on the rows
-pub each_regions : (measure : List ℕ → ℕ) (room height n : ℕ) (bytes : List ℕ) (x : List ChangeValue × List ℕ) → IsBytes bytes → n < 2 ^ 64 → each_at measure room (Some height) [] n bytes ≡ Ok x → regions_fit height x.0 ≡ true
-each_regions measure room height n bytes x fits lt e =
+pub each_regions : (measure : List ℕ → ℕ) (room : ℕ) (head : Head) (n : ℕ) (bytes : List ℕ) (x : List ChangeValue × List ℕ) → IsBytes bytes → n < 2 ^ 64 → each_at measure room (Some head) [] n bytes ≡ Ok x → regions_fit head.height x.0 ≡ true
+each_regions measure room head n bytes x fits lt e =
     let start : Takes (array n ++ bytes) (array n) bytes = record { parts = refl; rest_fits = fits } in
-    regions_of height x.0 (listed_takes measure room (Some height) n (array n ++ bytes) bytes x start lt e).2
+    regions_of head.height x.0 (listed_takes measure room (Some head) n (array n ++ bytes) bytes x start lt e).2
 
 -- so do those of an answer
-pub answer_regions : (measure : List ℕ → ℕ) (room cells : ℕ) (bytes : List ℕ) (x : SentAnswer × List ℕ) → IsBytes bytes → answer_in measure room cells bytes ≡ Ok x → regions_fit x.0.answer.height x.0.answer.changes ≡ true
+pub answer_regions : (measure : List ℕ → ℕ) (room : ℕ) (limits : Limits) (bytes : List ℕ) (x : SentAnswer × List ℕ) → IsBytes bytes → answer_in measure room limits bytes ≡ Ok x → regions_fit x.0.answer.height x.0.answer.changes ≡ true
 unfolding answer_in
-answer_regions measure room cells bytes x fits e =
-    let head = bind_ok (halted None (head_at room cells bytes)) (λ head. each_at measure room (Some head.0.height) [] head.0.count head.1 >>= λ changes. ok (sent_of head.0 changes.0) changes.1) x e in
-    let cs = bind_ok (each_at measure room (Some head.0.0.height) [] head.0.0.count head.0.1) (λ changes. ok (sent_of head.0.0 changes.0) changes.1) x head.2 in
-    let th = head_takes room cells bytes head.0 fits (halted_ok None (head_at room cells bytes) head.0 head.1) in
-    let tc = listed_takes measure room (Some head.0.0.height) head.0.0.count th.middle head.0.1 cs.0 th.listed th.count cs.1 in
+answer_regions measure room limits bytes x fits e =
+    let head = bind_ok (halted None (head_at room limits bytes)) (λ head. each_at measure room (Some head.0) [] head.0.count head.1 >>= λ changes. ok (sent_of head.0 changes.0) changes.1) x e in
+    let cs = bind_ok (each_at measure room (Some head.0.0) [] head.0.0.count head.0.1) (λ changes. ok (sent_of head.0.0 changes.0) changes.1) x head.2 in
+    let th = head_takes room limits bytes head.0 fits (halted_ok None (head_at room limits bytes) head.0 head.1) in
+    let tc = listed_takes measure room (Some head.0.0) head.0.0.count th.middle head.0.1 cs.0 th.listed th.count cs.1 in
     subst (λ (y : SentAnswer × List ℕ). regions_fit y.0.answer.height y.0.answer.changes ≡ true) (ok_is {A = SentAnswer × List ℕ} {E = Halt} (sent_of head.0.0 cs.0.0, cs.0.1) x cs.2) (regions_of head.0.0.height cs.0.0 tc.2)
 
 -- its changes are no more than the bytes that it took

@@ -8,6 +8,7 @@ pub mod StyleFound
 pub mod RunBounds
 pub mod Rows
 pub mod Bounded
+pub mod Bounds
 pub mod Again
 pub mod Found
 pub mod Loops
@@ -22,3 +23,5 @@ pub mod MoreBytes
 pub mod AnswerHeads
 pub mod Resuming
 pub mod PastLimits
+pub mod LineFeeds
+pub mod RepaintWork

@@ -5,8 +5,10 @@ use Rattle.cbor.specs.declared.error.FaultKind.{FaultKind}
 use Rattle.cbor.specs.declared.error.ReadError.{ReadError}
 use Rattle.cbor.specs.Decoding.{◌>>=◌, Stop, Stops, fault_of}
 use Rattle.termwiz_cell.specs.ChangeValue.{ChangeValue}
-use Rattle.termwiz_wire.specs.Answers.{Halt, halted, each_at}
-use Rattle.termwiz_wire.specs.Decoding.{param_at, params_at, change_at}
+use Rattle.termwiz_wire.specs.Answers.{Halt, halted, each_at, next_at}
+use Rattle.termwiz_wire.specs.Decoding.{param_at, params_at}
+use Rattle.termwiz_wire.specs.Work.{spent_on}
+use Rattle.termwiz_wire.specs.declared.decode.heads.Head.{Head}
 
 module _ {S X E : Type 0} (read : S → List ℕ → Result (X × List ℕ) E) (add : S → X → S) (many : S → ℕ → List ℕ → Result (S × List ℕ) E)
     (none : (s : S) (bytes : List ℕ) → many s zero bytes ≡ Ok (s, bytes)) (some : (s : S) (n : ℕ) (bytes : List ℕ) → many s (suc n) bytes ≡ (read s bytes >>= λ x. many (add s x.0) n x.1)) where
@@ -57,30 +59,30 @@ pub params_done : (room : ℕ) (s : List Param) (count i : ℕ) (bytes : List �
 params_done room = is_done (param_at room) param_added (params_at room) (params_none room) (params_some room)
 
 -- changes
-abbrev change_next : (List ℕ → ℕ) → ℕ → Option ℕ → List ChangeValue → List ℕ → Result (ChangeValue × List ℕ) Halt
-change_next measure room rows s bytes = halted (Some (length s)) (change_at measure room rows bytes)
+abbrev change_next : (List ℕ → ℕ) → ℕ → Option Head → List ChangeValue → List ℕ → Result (ChangeValue × List ℕ) Halt
+change_next measure room head s bytes = halted (Some (length s)) (next_at measure room head (spent_on head s) bytes)
 
 abbrev added : List ChangeValue → ChangeValue → List ChangeValue
 added s x = s ++ x ∷ []
 
-each_none : (measure : List ℕ → ℕ) (room : ℕ) (rows : Option ℕ) (s : List ChangeValue) (bytes : List ℕ) → each_at measure room rows s zero bytes ≡ Ok (s, bytes)
+each_none : (measure : List ℕ → ℕ) (room : ℕ) (head : Option Head) (s : List ChangeValue) (bytes : List ℕ) → each_at measure room head s zero bytes ≡ Ok (s, bytes)
 unfolding each_at
-each_none measure room rows s bytes = refl
+each_none measure room head s bytes = refl
 
-each_some : (measure : List ℕ → ℕ) (room : ℕ) (rows : Option ℕ) (s : List ChangeValue) (n : ℕ) (bytes : List ℕ) → each_at measure room rows s (suc n) bytes ≡ (halted (Some (length s)) (change_at measure room rows bytes) >>= λ x. each_at measure room rows (s ++ x.0 ∷ []) n x.1)
+each_some : (measure : List ℕ → ℕ) (room : ℕ) (head : Option Head) (s : List ChangeValue) (n : ℕ) (bytes : List ℕ) → each_at measure room head s (suc n) bytes ≡ (halted (Some (length s)) (next_at measure room head (spent_on head s) bytes) >>= λ x. each_at measure room head (s ++ x.0 ∷ []) n x.1)
 unfolding each_at
-each_some measure room rows s n bytes = refl
+each_some measure room head s n bytes = refl
 
-pub each_go_on : (measure : List ℕ → ℕ) (room : ℕ) (rows : Option ℕ) (s : List ChangeValue) (count i : ℕ) (bytes : List ℕ) (x : ChangeValue) (after : List ℕ) (total : Result (List ChangeValue × List ℕ) Halt) → i < count → change_at measure room rows bytes ≡ Ok (x, after) → each_at measure room rows s (count - i) bytes ≡ total → each_at measure room rows (s ++ x ∷ []) (count - (i + 1)) after ≡ total
-each_go_on measure room rows s count i bytes x after total lt h so_far = goes_on (change_next measure room rows) added (each_at measure room rows) (each_none measure room rows) (each_some measure room rows) s count i bytes x after total lt (ap (halted (Some (length s))) h) so_far
+pub each_go_on : (measure : List ℕ → ℕ) (room : ℕ) (head : Option Head) (s : List ChangeValue) (count i : ℕ) (bytes : List ℕ) (x : ChangeValue) (after : List ℕ) (total : Result (List ChangeValue × List ℕ) Halt) → i < count → next_at measure room head (spent_on head s) bytes ≡ Ok (x, after) → each_at measure room head s (count - i) bytes ≡ total → each_at measure room head (s ++ x ∷ []) (count - (i + 1)) after ≡ total
+each_go_on measure room head s count i bytes x after total lt h so_far = goes_on (change_next measure room head) added (each_at measure room head) (each_none measure room head) (each_some measure room head) s count i bytes x after total lt (ap (halted (Some (length s))) h) so_far
 
 halts : {Y : Type 0} (k : Option ℕ) (left : ℕ) (f : Option FaultKind) (r : Result Y Stop) → IfSome f (λ f. r ≡ Err (stop_at left f)) → IfSome f (λ f. halted k r ≡ Err (record { stop = stop_at left f; change = k }))
 halts k left None r h = tt
 halts k left (Some f) r h = ap (halted k) h
 
-pub each_end : (measure : List ℕ → ℕ) (room : ℕ) (rows : Option ℕ) (left : ℕ) (e : ReadError) (s : List ChangeValue) (count i : ℕ) (bytes : List ℕ) (total : Result (List ChangeValue × List ℕ) Halt) → i < count → length s ≡ i → Stops left e (change_at measure room rows bytes) → each_at measure room rows s (count - i) bytes ≡ total → IfSome (fault_of e) (λ f. total ≡ Err (record { stop = record { fault = f; left = left }; change = Some i }))
-each_end measure room rows left e s count i bytes total lt len h so_far =
-    rw (sym len) (ends_with (change_next measure room rows) added (each_at measure room rows) (each_none measure room rows) (each_some measure room rows) (fault_of e) (λ f. record { stop = stop_at left f; change = Some (length s) }) s count (length s) bytes total (omega (arith, lt, len)) (halts (Some (length s)) left (fault_of e) (change_at measure room rows bytes) h) (ap (λ (n : ℕ). each_at measure room rows s (count - n) bytes) len ∙ so_far))
+pub each_end : (measure : List ℕ → ℕ) (room : ℕ) (head : Option Head) (left : ℕ) (e : ReadError) (s : List ChangeValue) (count i : ℕ) (bytes : List ℕ) (total : Result (List ChangeValue × List ℕ) Halt) → i < count → length s ≡ i → Stops left e (next_at measure room head (spent_on head s) bytes) → each_at measure room head s (count - i) bytes ≡ total → IfSome (fault_of e) (λ f. total ≡ Err (record { stop = record { fault = f; left = left }; change = Some i }))
+each_end measure room head left e s count i bytes total lt len h so_far =
+    rw (sym len) (ends_with (change_next measure room head) added (each_at measure room head) (each_none measure room head) (each_some measure room head) (fault_of e) (λ f. record { stop = stop_at left f; change = Some (length s) }) s count (length s) bytes total (omega (arith, lt, len)) (halts (Some (length s)) left (fault_of e) (next_at measure room head (spent_on head s) bytes) h) (ap (λ (n : ℕ). each_at measure room head s (count - n) bytes) len ∙ so_far))
 
-pub each_done : (measure : List ℕ → ℕ) (room : ℕ) (rows : Option ℕ) (s : List ChangeValue) (count i : ℕ) (bytes : List ℕ) (total : Result (List ChangeValue × List ℕ) Halt) → count ≤ i → each_at measure room rows s (count - i) bytes ≡ total → total ≡ Ok (s, bytes)
-each_done measure room rows = is_done (change_next measure room rows) added (each_at measure room rows) (each_none measure room rows) (each_some measure room rows)
+pub each_done : (measure : List ℕ → ℕ) (room : ℕ) (head : Option Head) (s : List ChangeValue) (count i : ℕ) (bytes : List ℕ) (total : Result (List ChangeValue × List ℕ) Halt) → count ≤ i → each_at measure room head s (count - i) bytes ≡ total → total ≡ Ok (s, bytes)
+each_done measure room head = is_done (change_next measure room head) added (each_at measure room head) (each_none measure room head) (each_some measure room head)

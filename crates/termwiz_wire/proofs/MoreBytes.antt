@@ -1,5 +1,5 @@
 -- What bytes of answers decide within the limits, when more may come behind them.
-use Rattle.std.proofs.Common.{◌≡◌, ℕ, ◌+◌, ◌-◌, ◌*◌, ◌<◌, ◌≤◌, List, [], ◌++◌, length, take, drop, None, Result, Ok, Err, refl, sym, ap, subst, ◌∙◌, append_assoc, append-nil, arith, inl, inr}
+use Rattle.std.proofs.Common.{◌≡◌, ℕ, ◌+◌, ◌-◌, ◌<◌, ◌≤◌, List, [], ◌++◌, length, take, drop, None, Result, Ok, Err, refl, sym, ap, subst, ◌∙◌, append_assoc, append-nil, arith, inl, inr}
 use Rattle.std.proofs.Math.Seq.{take-append-add, drop-append-add}
 use Rattle.std.proofs.lemmas.Bool.{cases_lt, le-ltb}
 use Rattle.std.proofs.lemmas.List.{length-append, length-drop, length-take-le, take-append-drop, take-append-le, drop-append-le, take_all, drop_all}
@@ -11,6 +11,7 @@ use Rattle.termwiz_wire.specs.Answers.{Halt, opened_at, head_at, answer_in, ask_
 use Rattle.termwiz_wire.specs.Decoding.{change_at}
 use Rattle.termwiz_wire.specs.MoreBytes.{halt, kind, IsCut, Goes}
 use Rattle.termwiz_wire.specs.Sent.{IsSent, answer}
+use Rattle.termwiz_wire.specs.Within.{IsWithin}
 use Rattle.termwiz_wire.specs.declared.fault.Fault.{Fault}
 use Rattle.termwiz_wire.specs.declared.fault.Limits.{Limits}
 use Rattle.termwiz_wire.specs.declared.sent.SentAnswer.{SentAnswer}
@@ -86,7 +87,7 @@ within_stays read limit bytes more reads =
 
 pub answer_stays : (measure : List ℕ → ℕ) (limits : Limits) (bytes more : List ℕ) → Stays kind left more (answer_at measure limits bytes) (answer_at measure limits (bytes ++ more))
 unfolding answer_at
-answer_stays measure limits bytes more = within_stays (λ room rest. answer_in measure room limits.cells rest) limits.bytes bytes more (answer_reads measure limits.cells)
+answer_stays measure limits bytes more = within_stays (λ room rest. answer_in measure room limits rest) limits.bytes bytes more (answer_reads measure limits)
 
 pub ask_stays : (bytes more : List ℕ) → Stays kind left more (ask_at bytes) (ask_at (bytes ++ more))
 unfolding ask_at
@@ -100,9 +101,9 @@ pub change_stays : (measure : List ℕ → ℕ) (bytes more : List ℕ) → Stay
 unfolding one_change_at
 change_stays measure bytes more = within_stays (λ room rest. halted None (change_at measure room None rest)) unlimited bytes more (halted_reads None (change_reads measure None))
 
-none_in : (measure : List ℕ → ℕ) (room cells : ℕ) → 0 < room → answer_in measure room cells [] ≡ Err (record { stop = record { fault = Truncated; left = allowed room [] }; change = None })
+none_in : (measure : List ℕ → ℕ) (room : ℕ) (limits : Limits) → 0 < room → answer_in measure room limits [] ≡ Err (record { stop = record { fault = Truncated; left = allowed room [] }; change = None })
 unfolding answer_in head_at opened_at array_at head_in
-none_in measure room cells some = rw (le-ltb (allowed room []) 1 (omega (arith, some))) refl
+none_in measure room limits some = rw (le-ltb (allowed room []) 1 (omega (arith, some))) refl
 
 abbrev first_fault : Fault
 first_fault = record { kind = Truncated; at = 0; change = None }
@@ -115,7 +116,7 @@ none_at measure limits some =
     let no_hand : take {A = ℕ} limits.bytes [] ≡ [] = take_all {A = ℕ} limits.bytes [] (omega arith) in
     let no_past : drop {A = ℕ} limits.bytes [] ≡ [] = drop_all {X = ℕ} limits.bytes [] (omega arith) in
     rw (no_hand, no_past)
-    (ap (located (allowed room []) []) (none_in measure room limits.cells (omega (arith, some)))
+    (ap (located (allowed room []) []) (none_in measure room limits (omega (arith, some)))
     ∙ ap (λ (n : ℕ). failed {Z = SentAnswer × List ℕ} (record { kind = Truncated; at = n; change = None })) at)
 
 value_stays : (measure : List ℕ → ℕ) (limits : Limits) (bytes more : List ℕ) (x : SentAnswer) (rest : List ℕ) → answer_at measure limits bytes ≡ Ok (x, rest) → answer_at measure limits (bytes ++ more) ≡ Ok (x, rest ++ more)
@@ -137,16 +138,16 @@ answers_go measure limits some = record {
   fault = fault_stays measure limits;
 }
 
-alone : (measure : List ℕ → ℕ) (limits : Limits) (a : SentAnswer) → IsSent measure a → a.answer.width * a.answer.height ≤ limits.cells → length (answer measure a) ≤ limits.bytes → answer_at measure limits (answer measure a) ≡ Ok (a, [])
+alone : (measure : List ℕ → ℕ) (limits : Limits) (a : SentAnswer) → IsSent measure a → IsWithin measure limits a → answer_at measure limits (answer measure a) ≡ Ok (a, [])
 unfolding answer_at
-alone measure limits a is few short =
+alone measure limits a is within =
     let room : ℕ = limits.bytes - length (answer measure a) in
-    let whole : answer_in measure room limits.cells (answer measure a) ≡ Ok (a, []) = ap (answer_in measure room limits.cells) (sym (append-nil (answer measure a))) ∙ answer_again measure room limits.cells a [] is few in
-    rw (take_all limits.bytes (answer measure a) short, drop_all limits.bytes (answer measure a) short)
+    let whole : answer_in measure room limits (answer measure a) ≡ Ok (a, []) = ap (answer_in measure room limits) (sym (append-nil (answer measure a))) ∙ answer_again measure room limits a [] is within.screen within.borne in
+    rw (take_all limits.bytes (answer measure a) within.bytes, drop_all limits.bytes (answer measure a) within.bytes)
     (ap (located (allowed room (answer measure a)) []) whole)
 
-pub answers_again : (measure : List ℕ → ℕ) (limits : Limits) (a : SentAnswer) (rest : List ℕ) → IsSent measure a → a.answer.width * a.answer.height ≤ limits.cells → length (answer measure a) ≤ limits.bytes → answer_at measure limits (answer measure a ++ rest) ≡ Ok (a, rest)
-answers_again measure limits a rest is few short = value_stays measure limits (answer measure a) rest a [] (alone measure limits a is few short)
+pub answers_again : (measure : List ℕ → ℕ) (limits : Limits) (a : SentAnswer) (rest : List ℕ) → IsSent measure a → IsWithin measure limits a → answer_at measure limits (answer measure a ++ rest) ≡ Ok (a, rest)
+answers_again measure limits a rest is within = value_stays measure limits (answer measure a) rest a [] (alone measure limits a is within)
 
 -- ---- beginnings
 
@@ -154,13 +155,13 @@ located_fails : {A : Type 0} (a : ℕ) (past : List ℕ) (r : Result (A × List 
 located_fails a past (Ok x) fails = fails
 located_fails a past (Err h) fails = fails
 
-pub answers_begin : (measure : List ℕ → ℕ) (limits : Limits) (a : SentAnswer) (k : ℕ) → IsSent measure a → a.answer.width * a.answer.height ≤ limits.cells → length (answer measure a) ≤ limits.bytes → k < length (answer measure a) → FailsBy kind Truncated (answer_at measure limits (take k (answer measure a)))
+pub answers_begin : (measure : List ℕ → ℕ) (limits : Limits) (a : SentAnswer) (k : ℕ) → IsSent measure a → IsWithin measure limits a → k < length (answer measure a) → FailsBy kind Truncated (answer_at measure limits (take k (answer measure a)))
 unfolding answer_at
-answers_begin measure limits a k is few short lt =
+answers_begin measure limits a k is within lt =
     let front : List ℕ = take k (answer measure a) in
     let len : length front ≡ k = length-take-le k (answer measure a) (omega (arith, lt)) in
     let room : ℕ = limits.bytes - length front in
-    let fits : length front ≤ limits.bytes = omega (arith, len, lt, short) in
-    let begin : BeginningsOf halt (λ room bytes. answer_in measure room limits.cells bytes) (answer measure a) = beginnings (answer_reads measure limits.cells) (answer measure a) a (λ room. answer_again measure room limits.cells a [] is few) in
+    let fits : length front ≤ limits.bytes = omega (arith, len, lt, within.bytes) in
+    let begin : BeginningsOf halt (λ room bytes. answer_in measure room limits bytes) (answer measure a) = beginnings (answer_reads measure limits) (answer measure a) a (λ room. answer_again measure room limits a [] is within.screen within.borne) in
     rw (take_all limits.bytes front fits)
-    (located_fails (allowed room front) (drop limits.bytes front) (answer_in measure room limits.cells front) (begin room k lt (omega (arith, len, lt, short))))
+    (located_fails (allowed room front) (drop limits.bytes front) (answer_in measure room limits front) (begin room k lt (omega (arith, len, lt, within.bytes))))

@@ -16,8 +16,12 @@ use Rattle.termwiz_wire.specs.Encoding.{fields}
 use Rattle.termwiz_wire.specs.Pieces.{runs, stands_out, needs_pieces}
 use Rattle.termwiz_wire.specs.Cuts.{refused, is_rest_at, is_run_at, are_at, same_at, is_count, are_characters, are_columns, kept_at, run_at, no_run, runs_at, threes_at, cut_at, others_at, pieces_at, pieces_by}
 use Rattle.termwiz_wire.specs.Decoding.{which_at, palette_at, rgb_at, rgb_palette_at, color_by, color_at, split, are_small, style_limit, style_at, ascends, key_at, param_at, params_at, link_at, optional_link_by, optional_link_at, attributes_at, attribute_change_by, attribute_change_at, position_by, position_at, place_at, is_on, region_size_at, scroll_at, printed_at, change_by, count_at, has_count, change_kind_at, change_at}
-use Rattle.termwiz_wire.specs.Answers.{version_at, body_at, opened_at, source_at, size_at, height_at, number_at, asked_at, ask_in, head_at, halted, each_at, changes_in, answer_in}
+use Rattle.termwiz_wire.specs.Answers.{version_at, body_at, opened_at, source_at, size_at, height_at, number_at, asked_at, ask_in, head_at, halted, next_at, each_at, changes_in, answer_in}
 use Rattle.termwiz_wire.specs.MoreBytes.{halt}
+use Rattle.termwiz_wire.specs.Screens.{is_past}
+use Rattle.termwiz_wire.specs.Work.{bears, rows_of, spent_on}
+use Rattle.termwiz_wire.specs.declared.decode.heads.Head.{Head}
+use Rattle.termwiz_wire.specs.declared.fault.Limits.{Limits}
 use Rattle.termwiz_wire.specs.declared.pieces.Run.{Run}
 
 abbrev stop_at : {Z : Type 0} → FaultKind → ℕ → Result Z Stop
@@ -284,9 +288,9 @@ size_reads : Reads fault left size_at
 unfolding size_at
 size_reads = unless faults.Range (λ is. cc) (λ n. eqb n 0) (below_reads (2 ^ 32))
 
-height_reads : (cells width : ℕ) → Reads fault left (λ room bytes. height_at room cells width bytes)
+height_reads : (limits : Limits) (width : ℕ) → Reads fault left (λ room bytes. height_at room limits width bytes)
 unfolding height_at
-height_reads cells width = unless faults.Limit (λ is. cc) (λ n. ltb cells (width * n)) size_reads
+height_reads limits width = unless faults.Limit (λ is. cc) (λ n. is_past limits width n) size_reads
 
 number_reads : (base : ℕ) → Reads fault left (λ room bytes. number_at room base bytes)
 unfolding number_at
@@ -300,9 +304,9 @@ pub ask_reads : Reads fault left ask_in
 unfolding ask_in
 ask_reads = bind_rest _ (opened_reads 3) (bind _ unsigned_reads (λ source. bind _ (asked_reads source) (λ number. done)))
 
-pub head_reads : (cells : ℕ) → Reads fault left (λ room bytes. head_at room cells bytes)
+pub head_reads : (limits : Limits) → Reads fault left (λ room bytes. head_at room limits bytes)
 unfolding head_at
-head_reads cells = bind_rest _ (opened_reads 7) (bind _ source_reads (λ s. bind _ size_reads (λ w. bind _ (height_reads cells w) (λ h. bind _ unsigned_reads (λ b. bind _ (number_reads b) (λ n. bind _ list_reads (λ c. done)))))))
+head_reads limits = bind_rest _ (opened_reads 7) (bind _ source_reads (λ s. bind _ size_reads (λ w. bind _ (height_reads limits w) (λ h. bind _ unsigned_reads (λ b. bind _ (number_reads b) (λ n. bind _ list_reads (λ c. done)))))))
 
 -- ---- answers
 
@@ -321,15 +325,19 @@ halted_reads {gy = gy} {read = read} change reads = record {
   ends = λ bytes. halted_ends change (read 0 bytes) (reads.ends bytes);
 }
 
-each_reads : (measure : List ℕ → ℕ) (rows : Option ℕ) (made : List ChangeValue) (n : ℕ) → Reads halt left (λ room bytes. each_at measure room rows made n bytes)
+pub next_reads : (measure : List ℕ → ℕ) (head : Option Head) (spent : ℕ) → Reads fault left (λ room bytes. next_at measure room head spent bytes)
+unfolding next_at
+next_reads measure head spent = kept faults.Limit (λ is. cc) (λ c. bears head spent c) (change_reads measure (rows_of head))
+
+each_reads : (measure : List ℕ → ℕ) (head : Option Head) (made : List ChangeValue) (n : ℕ) → Reads halt left (λ room bytes. each_at measure room head made n bytes)
 unfolding each_at
-each_reads measure rows made zero = done
-each_reads measure rows made (suc n) = bind _ (halted_reads (Some (length made)) (change_reads measure rows)) (λ first. each_reads measure rows (made ++ first ∷ []) n)
+each_reads measure head made zero = done
+each_reads measure head made (suc n) = bind _ (halted_reads (Some (length made)) (next_reads measure head (spent_on head made))) (λ first. each_reads measure head (made ++ first ∷ []) n)
 
-pub changes_reads : (measure : List ℕ → ℕ) (rows : Option ℕ) → Reads halt left (λ room bytes. changes_in measure room rows bytes)
+pub changes_reads : (measure : List ℕ → ℕ) (head : Option Head) → Reads halt left (λ room bytes. changes_in measure room head bytes)
 unfolding changes_in
-changes_reads measure rows = bind _ (halted_reads None list_reads) (λ n. each_reads measure rows [] n)
+changes_reads measure head = bind _ (halted_reads None list_reads) (λ n. each_reads measure head [] n)
 
-pub answer_reads : (measure : List ℕ → ℕ) (cells : ℕ) → Reads halt left (λ room bytes. answer_in measure room cells bytes)
+pub answer_reads : (measure : List ℕ → ℕ) (limits : Limits) → Reads halt left (λ room bytes. answer_in measure room limits bytes)
 unfolding answer_in
-answer_reads measure cells = bind _ (halted_reads None (head_reads cells)) (λ head. bind _ (each_reads measure (Some head.height) [] head.count) (λ changes. done))
+answer_reads measure limits = bind _ (halted_reads None (head_reads limits)) (λ head. bind _ (each_reads measure (Some head) [] head.count) (λ changes. done))

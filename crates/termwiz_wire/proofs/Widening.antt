@@ -13,8 +13,12 @@ use Rattle.termwiz_wire.specs.Encoding.{fields}
 use Rattle.termwiz_wire.specs.Pieces.{runs, stands_out, needs_pieces}
 use Rattle.termwiz_wire.specs.Cuts.{is_rest_at, is_run_at, are_at, same_at, is_count, are_characters, are_columns, kept_at, run_at, no_run, runs_at, threes_at, cut_at, others_at, pieces_at, pieces_by}
 use Rattle.termwiz_wire.specs.Decoding.{which_at, palette_at, rgb_at, rgb_palette_at, color_by, color_at, split, are_small, style_limit, style_at, ascends, key_at, param_at, params_at, link_at, optional_link_by, optional_link_at, attributes_at, attribute_change_by, attribute_change_at, position_by, position_at, place_at, is_on, region_size_at, scroll_at, printed_at, change_by, count_at, has_count, change_kind_at, change_at}
-use Rattle.termwiz_wire.specs.Answers.{version_at, body_at, opened_at, source_at, size_at, height_at, number_at, head_at, halted, each_at, answer_in}
+use Rattle.termwiz_wire.specs.Answers.{version_at, body_at, opened_at, source_at, size_at, height_at, number_at, head_at, halted, next_at, each_at, answer_in}
 use Rattle.termwiz_wire.specs.MoreBytes.{halt}
+use Rattle.termwiz_wire.specs.Screens.{is_past}
+use Rattle.termwiz_wire.specs.Work.{bears, rows_of, spent_on}
+use Rattle.termwiz_wire.specs.declared.decode.heads.Head.{Head}
+use Rattle.termwiz_wire.specs.declared.fault.Limits.{Limits}
 use Rattle.termwiz_wire.specs.declared.pieces.Run.{Run}
 
 bad_at : {Z : Type 0} (f : FaultKind) (place : ℕ → ℕ) → Widens {Y = Z} fault (λ room. Err (record { fault = f; left = place room }))
@@ -231,17 +235,17 @@ size_widens : (bytes : List ℕ) → Widens fault (λ room. size_at room bytes)
 unfolding size_at
 size_widens bytes = steps _ (below_widens (2 ^ 32) bytes) (λ n. either (eqb n.0 0) _ _ (stops _ (λ a b. refl)) gives)
 
-height_widens : (cells width : ℕ) (bytes : List ℕ) → Widens fault (λ room. height_at room cells width bytes)
+height_widens : (limits : Limits) (width : ℕ) (bytes : List ℕ) → Widens fault (λ room. height_at room limits width bytes)
 unfolding height_at
-height_widens cells width bytes = steps _ (size_widens bytes) (λ n. either (ltb cells (width * n.0)) _ _ (stops _ (λ a b. refl)) gives)
+height_widens limits width bytes = steps _ (size_widens bytes) (λ n. either (is_past limits width n.0) _ _ (stops _ (λ a b. refl)) gives)
 
 number_widens : (base : ℕ) (bytes : List ℕ) → Widens fault (λ room. number_at room base bytes)
 unfolding number_at
 number_widens base bytes = steps _ (unsigned_widens bytes) (λ n. either (ltb n.0 base) _ _ (stops _ (λ a b. refl)) gives)
 
-head_widens : (cells : ℕ) (bytes : List ℕ) → Widens fault (λ room. head_at room cells bytes)
+head_widens : (limits : Limits) (bytes : List ℕ) → Widens fault (λ room. head_at room limits bytes)
 unfolding head_at
-head_widens cells bytes = steps _ (opened_widens 7 bytes) (λ body. steps _ (source_widens body) (λ s. steps _ (size_widens s.1) (λ w. steps _ (height_widens cells w.0 w.1) (λ h. steps _ (unsigned_widens h.1) (λ b. steps _ (number_widens b.0 b.1) (λ n. steps _ (list_widens n.1) (λ c. gives)))))))
+head_widens limits bytes = steps _ (opened_widens 7 bytes) (λ body. steps _ (source_widens body) (λ s. steps _ (size_widens s.1) (λ w. steps _ (height_widens limits w.0 w.1) (λ h. steps _ (unsigned_widens h.1) (λ b. steps _ (number_widens b.0 b.1) (λ n. steps _ (list_widens n.1) (λ c. gives)))))))
 
 -- ---- answers
 
@@ -259,11 +263,15 @@ halted_widens {read = read} change widens = record {
   wider = λ small large le. halted_wider change (read small) (read large) (widens.wider small large le);
 }
 
-each_widens : (measure : List ℕ → ℕ) (rows : Option ℕ) (made : List ChangeValue) (n : ℕ) (bytes : List ℕ) → Widens halt (λ room. each_at measure room rows made n bytes)
-unfolding each_at
-each_widens measure rows made zero bytes = gives
-each_widens measure rows made (suc n) bytes = steps _ (halted_widens (Some (length made)) (change_widens measure rows bytes)) (λ first. each_widens measure rows (made ++ first.0 ∷ []) n first.1)
+next_widens : (measure : List ℕ → ℕ) (head : Option Head) (spent : ℕ) (bytes : List ℕ) → Widens fault (λ room. next_at measure room head spent bytes)
+unfolding next_at
+next_widens measure head spent bytes = steps _ (change_widens measure (rows_of head) bytes) (λ c. either (bears head spent c.0) _ _ gives (stops _ (λ a b. refl)))
 
-pub answer_widens : (measure : List ℕ → ℕ) (cells : ℕ) (bytes : List ℕ) → Widens halt (λ room. answer_in measure room cells bytes)
+each_widens : (measure : List ℕ → ℕ) (head : Option Head) (made : List ChangeValue) (n : ℕ) (bytes : List ℕ) → Widens halt (λ room. each_at measure room head made n bytes)
+unfolding each_at
+each_widens measure head made zero bytes = gives
+each_widens measure head made (suc n) bytes = steps _ (halted_widens (Some (length made)) (next_widens measure head (spent_on head made) bytes)) (λ first. each_widens measure head (made ++ first.0 ∷ []) n first.1)
+
+pub answer_widens : (measure : List ℕ → ℕ) (limits : Limits) (bytes : List ℕ) → Widens halt (λ room. answer_in measure room limits bytes)
 unfolding answer_in
-answer_widens measure cells bytes = steps _ (halted_widens None (head_widens cells bytes)) (λ head. steps _ (each_widens measure (Some head.0.height) [] head.0.count head.1) (λ changes. gives))
+answer_widens measure limits bytes = steps _ (halted_widens None (head_widens limits bytes)) (λ head. steps _ (each_widens measure (Some head.0) [] head.0.count head.1) (λ changes. gives))

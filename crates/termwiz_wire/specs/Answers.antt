@@ -1,5 +1,5 @@
 -- How answers and asks are decoded.
-use Rattle.std.specs.Prelude.{◌≡◌, ℕ, zero, suc, ◌-◌, ◌*◌, ◌^◌, ◌==◌, ◌&&◌, nat_lt, not, List, [], ◌∷◌, ◌++◌, length, take, drop, Option, Some, None, IfSome, Result, Ok, Err, if◌then◌else◌}
+use Rattle.std.specs.Prelude.{◌≡◌, ℕ, zero, suc, ◌-◌, ◌^◌, ◌==◌, ◌&&◌, nat_lt, not, List, [], ◌∷◌, ◌++◌, length, take, drop, Option, Some, None, IfSome, Result, Ok, Err, if◌then◌else◌}
 use Rattle.std.specs.Option.{option_map_or}
 use Rattle.cbor.specs.Decoding.{◌>>=◌, Stop, ok, allowed, fault_of, unsigned_at, below_at, array_at, list_at}
 use Rattle.cbor.specs.declared.error.ReadError.{ReadError}
@@ -7,6 +7,8 @@ use Rattle.cbor.specs.declared.error.FaultKind.TheVariants as faults
 use Rattle.termwiz_cell.specs.ChangeValue.{ChangeValue}
 use Rattle.termwiz_wire.specs.Cuts.{refused}
 use Rattle.termwiz_wire.specs.Decoding.{change_at}
+use Rattle.termwiz_wire.specs.Screens.{is_past}
+use Rattle.termwiz_wire.specs.Work.{bears, rows_of, spent_on}
 use Rattle.termwiz_wire.specs.declared.decode.halted.Halted.{Halted}
 use Rattle.termwiz_wire.specs.declared.fault.Fault.{Fault}
 use Rattle.termwiz_wire.specs.declared.fault.Limits.{Limits}
@@ -61,11 +63,11 @@ size_at room bytes = do
   n ← below_at room (2 ^ 32) bytes
   if n.0 == 0 then refused faults.Range room bytes else Ok n
 
--- a height that makes no more cells than these
-unfoldable pub height_at : ℕ → ℕ → ℕ → List ℕ → Result (ℕ × List ℕ) Stop
-height_at room cells width bytes = do
+-- a height that is within the limits
+unfoldable pub height_at : ℕ → Limits → ℕ → List ℕ → Result (ℕ × List ℕ) Stop
+height_at room limits width bytes = do
   n ← size_at room bytes
-  if nat_lt cells (width * n.0) then refused faults.Limit room bytes else Ok n
+  if is_past limits width n.0 then refused faults.Limit room bytes else Ok n
 
 -- a number from the base on
 unfoldable pub number_at : ℕ → ℕ → List ℕ → Result (ℕ × List ℕ) Stop
@@ -90,12 +92,12 @@ ask_in room bytes = do
 
 -- ---- answers
 
-unfoldable pub head_at : ℕ → ℕ → List ℕ → Result (Head × List ℕ) Stop
-head_at room cells bytes = do
+unfoldable pub head_at : ℕ → Limits → List ℕ → Result (Head × List ℕ) Stop
+head_at room limits bytes = do
   body ← opened_at room 7 bytes
   s ← source_at room body
   w ← size_at room s.1
-  h ← height_at room cells w.0 w.1
+  h ← height_at room limits w.0 w.1
   b ← unsigned_at room h.1
   n ← number_at room b.0 b.1
   c ← list_at room n.1
@@ -118,21 +120,28 @@ Halts left view (Err h) read =
     IfSome (fault_of h.error)
     (λ f. read ≡ Err (record { stop = record { fault = f; left = left }; change = h.change }))
 
--- so many changes behind these
+-- the next change of an answer with this head, if any, whose changes before it took so much work
+unfoldable pub next_at :
+    (List ℕ → ℕ) → ℕ → Option Head → ℕ → List ℕ → Result (ChangeValue × List ℕ) Stop
+next_at measure room head spent bytes = do
+  c ← change_at measure room (rows_of head) bytes
+  if bears head spent c.0 then Ok c else refused faults.Limit room bytes
+
+-- so many changes behind these, of an answer with this head, if any
 unfoldable pub each_at :
-    (List ℕ → ℕ) → ℕ → Option ℕ → List ChangeValue → ℕ → List ℕ →
+    (List ℕ → ℕ) → ℕ → Option Head → List ChangeValue → ℕ → List ℕ →
     Result (List ChangeValue × List ℕ) Halt
-each_at measure room rows made zero bytes = Ok (made, bytes)
-each_at measure room rows made (suc n) bytes = do
-  first ← halted (Some (length made)) (change_at measure room rows bytes)
-  each_at measure room rows (made ++ first.0 ∷ []) n first.1
+each_at measure room head made zero bytes = Ok (made, bytes)
+each_at measure room head made (suc n) bytes = do
+  first ← halted (Some (length made)) (next_at measure room head (spent_on head made) bytes)
+  each_at measure room head (made ++ first.0 ∷ []) n first.1
 
 -- the list of changes by itself
 unfoldable pub changes_in :
-    (List ℕ → ℕ) → ℕ → Option ℕ → List ℕ → Result (List ChangeValue × List ℕ) Halt
-changes_in measure room rows bytes = do
+    (List ℕ → ℕ) → ℕ → Option Head → List ℕ → Result (List ChangeValue × List ℕ) Halt
+changes_in measure room head bytes = do
   n ← halted None (list_at room bytes)
-  each_at measure room rows [] n.0 n.1
+  each_at measure room head [] n.0 n.1
 
 -- the answer of this head with these changes
 abbrev pub sent_of : Head → List ChangeValue → SentAnswer
@@ -161,10 +170,11 @@ head_of s =
       count = length s.answer.changes;
     }
 
-unfoldable pub answer_in : (List ℕ → ℕ) → ℕ → ℕ → List ℕ → Result (SentAnswer × List ℕ) Halt
-answer_in measure room cells bytes = do
-  head ← halted None (head_at room cells bytes)
-  changes ← each_at measure room (Some head.0.height) [] head.0.count head.1
+unfoldable pub answer_in :
+    (List ℕ → ℕ) → ℕ → Limits → List ℕ → Result (SentAnswer × List ℕ) Halt
+answer_in measure room limits bytes = do
+  head ← halted None (head_at room limits bytes)
+  changes ← each_at measure room (Some head.0) [] head.0.count head.1
   ok (sent_of head.0 changes.0) changes.1
 
 -- ---- with limits
@@ -188,12 +198,12 @@ within read limit bytes =
 
 unfoldable pub answer_at : (List ℕ → ℕ) → Limits → List ℕ → Result (SentAnswer × List ℕ) Fault
 answer_at measure limits bytes =
-    within (λ room rest. answer_in measure room limits.cells rest) limits.bytes bytes
+    within (λ room rest. answer_in measure room limits rest) limits.bytes bytes
 
 -- the head of the answer at the front of the bytes, whose changes need not be there
 unfoldable pub answer_head_at : Limits → List ℕ → Result Head Fault
 answer_head_at limits bytes = do
-  head ← within (λ room rest. halted None (head_at room limits.cells rest)) limits.bytes bytes
+  head ← within (λ room rest. halted None (head_at room limits rest)) limits.bytes bytes
   Ok head.0
 
 -- what has no limit has that of a `usize`

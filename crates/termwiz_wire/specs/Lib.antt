@@ -6,7 +6,10 @@ pub mod Cuts
 pub mod Decoding
 pub mod Forms
 pub mod Sent
+pub mod Work
+pub mod Screens
 pub mod Answers
+pub mod Within
 pub mod Lent
 pub mod MoreBytes
 pub mod Resuming

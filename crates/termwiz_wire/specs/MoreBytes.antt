@@ -1,9 +1,10 @@
 -- What bytes of answers decide, when more may come behind them.
-use Rattle.std.specs.Prelude.{◌≡◌, ◌⊎◌, ℕ, ◌*◌, ◌<◌, ◌≤◌, List, [], ◌++◌, length, Result, Ok, Err}
+use Rattle.std.specs.Prelude.{◌≡◌, ℕ, List, [], ◌++◌, Result, Ok, Err}
 use Rattle.cbor.specs.declared.error.FaultKind.{FaultKind}
 use Rattle.cbor.specs.declared.error.FaultKind.TheVariants.{Limit, Truncated}
 use Rattle.termwiz_wire.specs.Answers.{Halt, answer_at}
 use Rattle.termwiz_wire.specs.Sent.{IsSent, answer}
+use Rattle.termwiz_wire.specs.Within.{IsBeyond, IsWithin}
 use Rattle.termwiz_wire.specs.declared.fault.Fault.{Fault}
 use Rattle.termwiz_wire.specs.declared.fault.Limits.{Limits}
 use Rattle.termwiz_wire.specs.declared.sent.SentAnswer.{SentAnswer}
@@ -39,11 +40,8 @@ pub record Goes {T E : Type 0} (read : List ℕ → Result (T × List ℕ) E) (I
 pub record Laws (measure : List ℕ → ℕ) (limits : Limits) : Type 0 where
   pub goes : Goes (answer_at measure limits) IsCut
   pub limited :
-      (a : SentAnswer) (rest : List ℕ) → IsSent measure a →
-      (limits.cells < a.answer.width * a.answer.height) ⊎
-      (limits.bytes < length (answer measure a)) →
+      (a : SentAnswer) (rest : List ℕ) → IsSent measure a → IsBeyond measure limits a →
       (f : Fault) × (answer_at measure limits (answer measure a ++ rest) ≡ Err f) × (f.kind ≡ Limit)
   pub again :
-      (a : SentAnswer) (rest : List ℕ) → IsSent measure a →
-      a.answer.width * a.answer.height ≤ limits.cells → length (answer measure a) ≤ limits.bytes →
+      (a : SentAnswer) (rest : List ℕ) → IsSent measure a → IsWithin measure limits a →
       answer_at measure limits (answer measure a ++ rest) ≡ Ok (a, rest)

@@ -7,6 +7,7 @@ use Rattle.cbor.specs.declared.error.ReadError.TheVariants as read_errors
 use Rattle.termwiz_cell.specs.ChangeValue.{ChangeValue, change_value}
 use Rattle.termwiz_wire.specs.Answers.{Halt, answer_at, answer_in, each_at, sent_of}
 use Rattle.termwiz_wire.specs.Lent.{lent_answer}
+use Rattle.termwiz_wire.specs.Work.{most_work, spent_on}
 use Rattle.termwiz_wire.specs.declared.decode.begun.Begun.{Begun}
 use Rattle.termwiz_wire.specs.declared.decode.begun.NoAnswer.{NoAnswer}
 use Rattle.termwiz_wire.specs.declared.decode.begun.NoAnswer.TheVariants as no_answers
@@ -22,7 +23,7 @@ use Rattle.termwiz_wire.specs.declared.sent.SentAnswer.{SentAnswer}
 abbrev pub left_at :
     (List ℕ → ℕ) → ℕ → Head → List ChangeValue → List ℕ → Result (List ChangeValue × List ℕ) Halt
 left_at measure room head made bytes =
-    each_at measure room (Some head.height) made (head.count - length made) bytes
+    each_at measure room (Some head) made (head.count - length made) bytes
 
 -- the answer of this head, behind these of its changes
 abbrev pub rest_at :
@@ -43,9 +44,11 @@ pub record LeadsOn (measure : List ℕ → ℕ) (limits : Limits) (begun : Begun
   pub height : (0 < begun.head.height) × (begun.head.height < 2 ^ 32)
   pub numbers : begun.head.base ≤ begun.head.number
   pub taken : begun.taken ≤ length (take limits.bytes bytes)
+  pub spent : begun.spent ≡ spent_on (Some begun.head) (map change_value begun.changes.items)
+  pub borne : begun.spent ≤ most_work begun.head.width begun.head.height
   pub same :
       (near : List ℕ) (room : ℕ) → length near + room ≡ limits.bytes - length bytes →
-      answer_in measure room limits.cells (take limits.bytes bytes ++ near) ≡
+      answer_in measure room limits (take limits.bytes bytes ++ near) ≡
       resumed_in measure room begun (take limits.bytes bytes ++ near)
 
 -- more bytes may make an answer

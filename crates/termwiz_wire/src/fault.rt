@@ -6,21 +6,25 @@ use std::fmt::{self, Display, Formatter};
 use thiserror::Error;
 
 /// What a decoder takes at most: an answer of more is the fault `Limit`, found before memory is
-/// taken for it.
+/// taken for it. So is one whose changes cost more than its screen bears, which no limit sets: see
+/// `is_borne`.
 #[derive(Clone, Copy, PartialEq, Eq, Debug)]
 pub struct Limits {
     /// Cells of the screen: columns times rows.
     pub cells: usize,
+    /// Rows of the screen.
+    pub rows: usize,
     /// Bytes of an answer.
     pub bytes: usize,
 }
 
 impl Default for Limits {
-    ghost is_default = { λ l. l ≡ record { cells = 1048576; bytes = 16777216 } };
+    ghost is_default = { λ l. l ≡ record { cells = 1048576; rows = 65536; bytes = 16777216 } };
 
     fn default() -> Limits {
         Limits {
             cells: 1048576,
+            rows: 65536,
             bytes: 16777216,
         }
     }

@@ -13,6 +13,7 @@ mod len;
 mod more_bytes;
 mod pieces;
 mod sent;
+mod work;
 
 pub use cbor::FaultKind;
 pub use decode::{
@@ -24,3 +25,4 @@ pub use fault::{Fault, Limits, WireError};
 pub use len::encoded_len;
 pub use more_bytes::{answers, decided, stays};
 pub use sent::{Ask, LentAnswer, SentAnswer, SourceNo};
+pub use work::is_borne;

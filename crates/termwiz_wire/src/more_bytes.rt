@@ -1,5 +1,5 @@
 //! What bytes decide, when more may follow them.
-ghost use Rattle.std.specs.Prelude.{ℕ, ◌*◌, ◌<◌, ◌≤◌, ◌++◌, List, Option, length, take};
+ghost use Rattle.std.specs.Prelude.{ℕ, ◌<◌, ◌++◌, List, Option, length, take};
 ghost use Rattle.cbor.specs.Prefixes.{FailsBy, Reads, Stays, fault, left, seen};
 ghost use Rattle.cbor.specs.declared.error.FaultKind.TheVariants.{Truncated};
 ghost use Rattle.termwiz_wire.specs.Answers.{answer_at, answer_head_at, answer_in, ask_at, ask_in};
@@ -7,18 +7,20 @@ ghost use Rattle.termwiz_wire.specs.Answers.{changes_at, changes_in, one_change_
 ghost use Rattle.termwiz_wire.specs.Decoding.{change_at};
 ghost use Rattle.termwiz_wire.specs.MoreBytes.{Laws, halt, kind};
 ghost use Rattle.termwiz_wire.specs.Sent.{IsSent, answer};
+ghost use Rattle.termwiz_wire.specs.Within.{IsWithin};
+ghost use Rattle.termwiz_wire.specs.declared.decode.heads.Head.{Head};
 ghost use Rattle.termwiz_wire.specs.declared.fault.Limits.{Limits};
 ghost use Rattle.termwiz_wire.specs.declared.sent.SentAnswer.{SentAnswer};
 
-/// A value or a fault stays as it is, whatever bytes follow within the limit, and at the limit
-/// there is one: so a value is `Truncated` exactly where its bytes don't decide.
+/// A value, and a fault but for `Truncated`, stays as it is, whatever bytes follow within the limit;
+/// and no bytes that reach the limit are `Truncated`.
 pub fn decided()
     ensures change { (measure : List ℕ → ℕ) (rows : Option ℕ) →
         Reads fault left (λ room bytes. change_at measure room rows bytes) }
-    ensures changes { (measure : List ℕ → ℕ) (rows : Option ℕ) →
-        Reads halt left (λ room bytes. changes_in measure room rows bytes) }
-    ensures answer { (measure : List ℕ → ℕ) (cells : ℕ) →
-        Reads halt left (λ room bytes. answer_in measure room cells bytes) }
+    ensures changes { (measure : List ℕ → ℕ) (head : Option Head) →
+        Reads halt left (λ room bytes. changes_in measure room head bytes) }
+    ensures answer { (measure : List ℕ → ℕ) (limits : Limits) →
+        Reads halt left (λ room bytes. answer_in measure room limits bytes) }
     ensures ask { Reads fault left ask_in }
 {}
 
@@ -47,7 +49,6 @@ pub fn answers()
     ensures laws { (measure : List ℕ → ℕ) (limits : Limits) → 0 < limits.bytes →
         Laws measure limits }
     ensures truncated { (measure : List ℕ → ℕ) (limits : Limits) (a : SentAnswer) (k : ℕ) →
-        IsSent measure a → a.answer.width * a.answer.height ≤ limits.cells →
-        length (answer measure a) ≤ limits.bytes → k < length (answer measure a) →
+        IsSent measure a → IsWithin measure limits a → k < length (answer measure a) →
         FailsBy kind Truncated (answer_at measure limits (take k (answer measure a))) }
 {}

@@ -6,7 +6,9 @@ ghost use Rattle.termwiz_cell.specs.ChangeValue.{change_value};
 ghost use Rattle.termwiz_cell.specs.Measure.{measure};
 ghost use Rattle.termwiz_screen.specs.Step.{regions_fit};
 ghost use Rattle.termwiz_wire.specs.Answers.{Decodes, Halts, answer_at, answer_in, sent_of};
+ghost use Rattle.termwiz_wire.specs.Screens.{FitsLimits};
 ghost use Rattle.termwiz_wire.specs.Sent.{IsSent, answer};
+ghost use Rattle.termwiz_wire.specs.Within.{IsBorne, IsWithin};
 ghost use Rattle.termwiz_wire.specs.declared.sent.SentAnswer.{SentAnswer};
 
 use super::changes::each_of;
@@ -24,8 +26,9 @@ use termwiz_surface::Answer;
 /// cut and measured by `widths` as they were by its sender.
 ///
 /// It fails with the first fault from left to right. `Truncated` says that more bytes may complete
-/// the answer; any other fault stays, whatever bytes follow. An answer of more cells or bytes than
-/// the limits is `Limit`, before memory is taken for it.
+/// the answer; any other fault stays, whatever bytes follow. An answer of more cells, rows or bytes
+/// than the limits is `Limit`, before memory is taken for it, and one whose changes cost more than
+/// its screen bears is `Limit` at the change with which they do.
 pub fn decode_answer<W: Widths>(
     alloc: Global,
     widths: &W,
@@ -35,8 +38,7 @@ pub fn decode_answer<W: Widths>(
     // What is encoded so is decoded, whatever follows it, if the limits allow it.
     ensures again { (s : SentAnswer) (rest : List ℕ) →
         IsSent (measure W.width_of widths.now) s →
-        s.answer.width * s.answer.height ≤ limits.cells →
-        length (answer (measure W.width_of widths.now) s) ≤ limits.bytes →
+        IsWithin (measure W.width_of widths.now) limits s →
         bytes.now ≡ answer (measure W.width_of widths.now) s ++ rest →
         Decodes (λ x. (x.0, drop x.1 bytes.now)) result (ok s rest) }
     // What is decoded was encoded so, in so many bytes.
@@ -47,7 +49,9 @@ pub fn decode_answer<W: Widths>(
     ensures named { IfOk result (λ x. 0 < x.0.source) }
     // It is within the limits.
     ensures limited { IfOk result (λ x.
-        (x.0.answer.width * x.0.answer.height ≤ limits.cells) × (x.1 ≤ limits.bytes)) }
+        FitsLimits limits x.0.answer.width x.0.answer.height × (x.1 ≤ limits.bytes)) }
+    // Its screen bears its changes.
+    ensures borne { IfOk result (λ x. IsBorne x.0) }
     // It has no more changes than bytes.
     ensures bounded { IfOk result (λ x. length x.0.answer.changes ≤ x.1) }
     // It is this value, or this fault.
@@ -56,7 +60,7 @@ pub fn decode_answer<W: Widths>(
 {
     let mut reader = Reader::with_limit(bytes, limits.bytes);
     let len = reader.rest().len();
-    match answer_of(alloc, widths, limits.cells, &mut reader) {
+    match answer_of(alloc, widths, limits, &mut reader) {
         Ok(sent) => Ok((sent, len.saturating_sub(reader.bytes.len()))),
         Err(halted) => Err(halted.located(len.saturating_sub(reader.bytes.len()))),
     }
@@ -66,15 +70,15 @@ pub fn decode_answer<W: Widths>(
 fn answer_of<W: Widths>(
     alloc: Global,
     widths: &W,
-    cells: usize,
+    limits: Limits,
     reader: &mut Reader<'_>,
 ) -> Result<SentAnswer, Halted>
     ensures value { Halts (allowed reader.new.room reader.new.bytes.now)
         (λ x. (x, reader.new.bytes.now)) result
-        (answer_in (measure W.width_of widths.now) reader.old.room cells reader.old.bytes.now) }
+        (answer_in (measure W.width_of widths.now) reader.old.room limits reader.old.bytes.now) }
     ensures room { reader.new.room ≡ reader.old.room }
 {
-    let head = match head_of(reader, cells) {
+    let head = match head_of(reader, limits) {
         Ok(head) => head,
         Err(error) => {
             return Err(Halted {
@@ -85,7 +89,7 @@ fn answer_of<W: Widths>(
     };
     // Each byte is below 256.
     let _bytes = reader.rest();
-    let changes = each_of(alloc, widths, Some(head.height), head.count, reader)?;
+    let changes = each_of(alloc, widths, Some(head), head.count, reader)?;
     Ok(sent_from(head, changes))
 }
 

@@ -1,6 +1,6 @@
 //! Answers whose bytes come in chunks.
 ghost use Rattle.std.specs.Option.{ForSome};
-ghost use Rattle.std.specs.Prelude.{◌≡◌, ◌++◌, ◌<◌, ◌≤◌, IfOk, drop, length, map};
+ghost use Rattle.std.specs.Prelude.{◌≡◌, ◌++◌, ◌<◌, ◌≤◌, ◌^◌, IfOk, OnOk, Some, drop, length, map};
 ghost use Rattle.cbor.specs.Decoding.{IsBytes, allowed};
 ghost use Rattle.termwiz_cell.specs.ChangeValue.{change_value};
 ghost use Rattle.termwiz_cell.specs.Measure.{measure};
@@ -10,10 +10,11 @@ ghost use Rattle.termwiz_wire.specs.Answers.{sent_of};
 ghost use Rattle.termwiz_wire.specs.Lent.{lent_answer};
 ghost use Rattle.termwiz_wire.specs.Resuming.{GoesOn, LeadsOn, Resumes};
 ghost use Rattle.termwiz_wire.specs.Sent.{answer};
+ghost use Rattle.termwiz_wire.specs.Work.{most_work, spent_on};
 ghost use Rattle.termwiz_wire.specs.declared.decode.begun.NoAnswer.TheVariants.{Failed};
 ghost use Rattle.termwiz_wire.specs.declared.fault.WireError.TheVariants.{Memory};
 
-use super::changes::{change_of, owned};
+use super::changes::{next_of, owned};
 use super::halted::Halted;
 use super::heads::{Head, head_of};
 use crate::fault::{Limits, WireError};
@@ -30,8 +31,9 @@ use termwiz_surface::LentChange;
 pub struct Begun {
     head: Head,
     changes: Vec<Change>,
-    // How many bytes these take.
+    // How many bytes these take, and how much work these cost.
     taken: usize,
+    spent: u128,
 }
 
 /// Why no answer was decoded.
@@ -89,12 +91,13 @@ fn begin<'a, W: Widths>(
 {
     let mut reader = Reader::with_limit(bytes, limits.bytes);
     let len = reader.rest().len();
-    match head_of(&mut reader, limits.cells) {
+    match head_of(&mut reader, limits) {
         Ok(head) => {
             let begun = Begun {
                 head,
                 changes: Vec::new(alloc),
                 taken: len.saturating_sub(reader.bytes.len()),
+                spent: 0,
             };
             resume(alloc, widths, limits, begun, bytes)
         }
@@ -132,12 +135,21 @@ fn resume<'a, W: Widths>(
         head,
         changes,
         taken,
+        mut spent,
     } = begun;
     let mut reader = Reader::with_limit(bytes, limits.bytes);
     let hand = reader.rest();
     reader.bytes = &hand[taken..];
     let mut more = Vec::new(alloc);
-    match go_on(alloc, widths, head, &changes, &mut more, &mut reader) {
+    match go_on(
+        alloc,
+        widths,
+        head,
+        &changes,
+        &mut more,
+        &mut spent,
+        &mut reader,
+    ) {
         Ok(true) => {
             let taken = hand.len().saturating_sub(reader.bytes.len());
             let changes = joined(alloc, changes, more)?;
@@ -150,6 +162,7 @@ fn resume<'a, W: Widths>(
                 head,
                 changes,
                 taken,
+                spent,
             })))
         }
         Err(halted) => {
@@ -167,20 +180,28 @@ fn go_on<'a, W: Widths>(
     head: Head,
     begun: &[Change],
     changes: &mut Vec<LentChange<'a>>,
+    spent: &mut u128,
     reader: &mut Reader<'a>,
 ) -> Result<bool, Halted>
-    requires { IsBytes reader.old.bytes.now }
+    requires bytes { IsBytes reader.old.bytes.now }
+    requires size { (head.width < 2 ^ 32) × (head.height < 2 ^ 32) }
+    requires spent { spent.old ≡ spent_on (Some head)
+        (map change_value begun.now ++ map lent_value changes.old.items) }
+    requires few { spent.old ≤ most_work head.width head.height }
     ensures goes { GoesOn (measure W.width_of widths.now) reader.old.room head
         (map change_value begun.now ++ map lent_value changes.old.items) reader.old.bytes.now result
         (map change_value begun.now ++ map lent_value changes.new.items)
         (allowed reader.new.room reader.new.bytes.now) reader.new.bytes.now }
+    ensures spent { OnOk result (spent.new ≡ spent_on (Some head)
+        (map change_value begun.now ++ map lent_value changes.new.items)) }
+    ensures few { OnOk result (spent.new ≤ most_work head.width head.height) }
     ensures room { reader.new.room ≡ reader.old.room }
 {
     let first = begun.len();
     let count = head.count.saturating_sub(first);
     'changes: while changes.len() < count {
         let start = reader.bytes;
-        match change_of(alloc, widths, Some(head.height), reader) {
+        match next_of(alloc, widths, Some(head), spent, reader) {
             Ok(change) => changes.push(change)?,
             Err(error) => match error {
                 ReadError::Truncated => {

@@ -1,5 +1,6 @@
 //! Changes.
-ghost use Rattle.std.specs.Prelude.{◌≡◌, ◌≢◌, ◌++◌, ◌+◌, ◌-◌, ◌≤◌, [], IfOk, List, None, ℕ};
+ghost use Rattle.std.specs.Prelude.{◌≡◌, ◌≢◌, ◌++◌, ◌+◌, ◌-◌, ◌<◌, ◌≤◌, ◌^◌, [], IfOk, IfSome, List};
+ghost use Rattle.std.specs.Prelude.{None, OnErr, OnOk, ℕ};
 ghost use Rattle.std.specs.Prelude.{drop, length};
 ghost use Rattle.std.specs.Prelude.{false, map, true};
 ghost use Rattle.cbor.specs.Decoding.{Gives, allowed, ok};
@@ -8,7 +9,7 @@ ghost use Rattle.termwiz_cell.specs.ChangeValue.{ChangeValue, change_value};
 ghost use Rattle.termwiz_cell.specs.Measure.{measure};
 ghost use Rattle.termwiz_surface.specs.Unlogged.{lent_value};
 ghost use Rattle.termwiz_wire.specs.Answers.{Decodes, Halts, changes_at, changes_in, each_at};
-ghost use Rattle.termwiz_wire.specs.Answers.{halted, one_change_at};
+ghost use Rattle.termwiz_wire.specs.Answers.{halted, next_at, one_change_at};
 ghost use Rattle.termwiz_wire.specs.Cuts.{others_at, pieces_at, pieces_by};
 ghost use Rattle.termwiz_wire.specs.Decoding.{change_at, change_by, change_kind_at, count_at};
 ghost use Rattle.termwiz_wire.specs.Decoding.{has_count, is_on, place_at, printed_at};
@@ -17,14 +18,17 @@ ghost use Rattle.termwiz_wire.specs.Encoding.{change, changes};
 ghost use Rattle.termwiz_wire.specs.Forms.{AreChanges, IsChange};
 ghost use Rattle.termwiz_wire.specs.Pieces.{runs};
 ghost use Rattle.termwiz_wire.specs.Beginning.{IsNeeded};
+ghost use Rattle.termwiz_wire.specs.Work.{cost, most_work, rows_of};
 
 use super::attributes::{attribute_change_of, attributes_of};
 use super::cuts::{are_same, cut_of};
 use super::halted::Halted;
+use super::heads::Head;
 use super::small::{color_of, position_of, visibility_of};
 use crate::encode::change_count;
 use crate::fault::WireError;
 use crate::pieces::needed_runs;
+use crate::work::spent_with;
 use cbor::{ReadError, Reader};
 use std::alloc::{AllocError, Global};
 use termwiz_cell::change::{Change, CursorShape, LineAttribute};
@@ -135,23 +139,25 @@ fn changes_of<W: Widths>(
     each_of(alloc, widths, None, count, reader)
 }
 
-/// Decodes so many changes, whose regions lie on these rows, if any are given.
+/// Decodes so many changes of an answer with this head, or by themselves.
 pub(super) fn each_of<W: Widths>(
     alloc: Global,
     widths: &W,
-    rows: Option<usize>,
+    head: Option<Head>,
     count: usize,
     reader: &mut Reader<'_>,
 ) -> Result<Vec<Change>, Halted>
+    requires { IfSome head (λ h. (h.width < 2 ^ 32) × (h.height < 2 ^ 32)) }
     ensures value { Halts (allowed reader.new.room reader.new.bytes.now)
         (λ x. (map change_value x.items, reader.new.bytes.now)) result
         (each_at (measure W.width_of widths.now)
-        reader.old.room rows [] count reader.old.bytes.now) }
+        reader.old.room head [] count reader.old.bytes.now) }
     ensures room { reader.new.room ≡ reader.old.room }
 {
     let mut changes = Vec::new(alloc);
+    let mut spent = 0;
     for index in 0..count {
-        let change = match change_of(alloc, widths, rows, reader) {
+        let change = match next_of(alloc, widths, head, &mut spent, reader) {
             Ok(change) => change,
             Err(error) => {
                 return Err(Halted {
@@ -163,6 +169,51 @@ pub(super) fn each_of<W: Widths>(
         changes.push(owned(alloc, change)?)?;
     }
     Ok(changes)
+}
+
+/// Decodes the next change of an answer with this head, or of changes by themselves, which may cost
+/// no more than the screen bears beside what was spent on those before it.
+#[tactic(auto, unfolding(crate::specs::Answers::next_at))]
+pub(super) fn next_of<'a, W: Widths>(
+    alloc: Global,
+    widths: &W,
+    head: Option<Head>,
+    spent: &mut u128,
+    reader: &mut Reader<'a>,
+) -> Result<LentChange<'a>, ReadError>
+    requires size { IfSome head (λ h. (h.width < 2 ^ 32) × (h.height < 2 ^ 32)) }
+    requires few { IfSome head (λ h. spent.old ≤ most_work h.width h.height) }
+    ensures value { Gives (allowed reader.new.room reader.new.bytes.now)
+        (λ x. (lent_value x, reader.new.bytes.now)) result
+        (next_at (measure W.width_of widths.now)
+        reader.old.room head spent.old reader.old.bytes.now) }
+    ensures spent { IfOk result (λ x. spent.new ≡ spent.old + cost head (lent_value x)) }
+    ensures few { OnOk result (IfSome head (λ h. spent.new ≤ most_work h.width h.height)) }
+    ensures kept { OnErr result (spent.new ≡ spent.old) }
+    ensures room { reader.new.room ≡ reader.old.room }
+{
+    let start = reader.bytes;
+    let change = change_of(alloc, widths, rows_of(head), reader)?;
+    match spent_with(head, *spent, &change) {
+        Some(all) => {
+            *spent = all;
+            Ok(change)
+        }
+        None => {
+            reader.bytes = start;
+            Err(ReadError::Limit)
+        }
+    }
+}
+
+// The rows of the screen that an answer is for.
+fn rows_of(head: Option<Head>) -> Option<usize>
+    ensures { result ≡ rows_of head }
+{
+    match head {
+        Some(head) => Some(head.height),
+        None => None,
+    }
 }
 
 /// Decodes a change, whose text is borrowed from the bytes.

@@ -1,11 +1,12 @@
 //! What answers and asks begin with.
-ghost use Rattle.std.specs.Prelude.{◌≡◌, ◌*◌, ◌<◌, ◌≤◌, ◌^◌, ◌++◌, Err, IfErr, IfOk, IsSome, List};
+ghost use Rattle.std.specs.Prelude.{◌≡◌, ◌<◌, ◌≤◌, ◌^◌, ◌++◌, Err, IfErr, IfOk, IsSome, List};
 ghost use Rattle.std.specs.Prelude.{Ok, length, ℕ};
 ghost use Rattle.cbor.specs.Decoding.{Gives, allowed, fault_of};
 ghost use Rattle.termwiz_surface.specs.Surface.{IsSurfaceSize};
 ghost use Rattle.termwiz_wire.specs.Answers.{answer_at, answer_head_at, body_at, head_at, head_of};
 ghost use Rattle.termwiz_wire.specs.Answers.{height_at, number_at, opened_at, size_at, source_at};
 ghost use Rattle.termwiz_wire.specs.Answers.{version_at};
+ghost use Rattle.termwiz_wire.specs.Screens.{FitsLimits};
 ghost use Rattle.termwiz_wire.specs.Sent.{IsSent, answer};
 ghost use Rattle.termwiz_wire.specs.declared.sent.SentAnswer.{SentAnswer};
 
@@ -40,7 +41,7 @@ pub fn decode_head(limits: Limits, bytes: &[u8]) -> Result<Head, Fault>
     ensures exact { result ≡ answer_head_at limits bytes.now }
     // The head of what is encoded is decoded, whatever follows it, if the limits allow it.
     ensures again { (measure : List ℕ → ℕ) (s : SentAnswer) (rest : List ℕ) →
-        IsSent measure s → s.answer.width * s.answer.height ≤ limits.cells →
+        IsSent measure s → FitsLimits limits s.answer.width s.answer.height →
         length (answer measure s) ≤ limits.bytes → bytes.now ≡ answer measure s ++ rest →
         result ≡ Ok (head_of s) }
     // Where an answer is decoded from the bytes, it is that answer's head.
@@ -53,13 +54,13 @@ pub fn decode_head(limits: Limits, bytes: &[u8]) -> Result<Head, Fault>
     ensures named { IfOk result (λ head. 0 < head.source) }
     // It has a size that a surface may have, and that is within the limits.
     ensures sized { IfOk result (λ head. IsSurfaceSize head.width head.height) }
-    ensures limited { IfOk result (λ head. head.width * head.height ≤ limits.cells) }
+    ensures limited { IfOk result (λ head. FitsLimits limits head.width head.height) }
     // Its changes lead on.
     ensures ordered { IfOk result (λ head. head.base ≤ head.number) }
 {
     let mut reader = Reader::with_limit(bytes, limits.bytes);
     let len = reader.rest().len();
-    match head_of(&mut reader, limits.cells) {
+    match head_of(&mut reader, limits) {
         Ok(head) => Ok(head),
         Err(error) => Err(Fault {
             kind: error.fault().unwrap(),
@@ -71,10 +72,10 @@ pub fn decode_head(limits: Limits, bytes: &[u8]) -> Result<Head, Fault>
 
 /// Decodes what an answer has before its changes.
 #[tactic(auto, unfolding(crate::specs::Answers::head_at))]
-pub(super) fn head_of(reader: &mut Reader<'_>, cells: usize) -> Result<Head, ReadError>
+pub(super) fn head_of(reader: &mut Reader<'_>, limits: Limits) -> Result<Head, ReadError>
     ensures value { Gives (allowed reader.new.room reader.new.bytes.now)
         (λ x. (x, reader.new.bytes.now)) result
-        (head_at reader.old.room cells reader.old.bytes.now) }
+        (head_at reader.old.room limits reader.old.bytes.now) }
     ensures width { IfOk result (λ x. (0 < x.width) × (x.width < 2 ^ 32)) }
     ensures height { IfOk result (λ x. (0 < x.height) × (x.height < 2 ^ 32)) }
     ensures numbers { IfOk result (λ x. x.base ≤ x.number) }
@@ -84,7 +85,7 @@ pub(super) fn head_of(reader: &mut Reader<'_>, cells: usize) -> Result<Head, Rea
     opened_of(reader, 7)?;
     let source = source_of(reader)?;
     let width = size_of(reader)?;
-    let height = height_of(reader, cells, width)?;
+    let height = height_of(reader, limits, width)?;
     let base = reader.unsigned()?;
     let number = number_of(reader, base)?;
     let count = reader.list()?;
@@ -175,20 +176,20 @@ fn size_of(reader: &mut Reader<'_>) -> Result<usize, ReadError>
     Ok(size)
 }
 
-// A height that makes no more cells than these.
+// A height that is within the limits.
 #[tactic(auto, unfolding(crate::specs::Answers::height_at))]
-fn height_of(reader: &mut Reader<'_>, cells: usize, width: usize) -> Result<usize, ReadError>
+fn height_of(reader: &mut Reader<'_>, limits: Limits, width: usize) -> Result<usize, ReadError>
     requires { width < 2 ^ 32 }
     ensures value { Gives (allowed reader.new.room reader.new.bytes.now)
         (λ x. (x, reader.new.bytes.now)) result
-        (height_at reader.old.room cells width reader.old.bytes.now) }
+        (height_at reader.old.room limits width reader.old.bytes.now) }
     ensures fits { IfOk result (λ x. (0 < x) × (x < 2 ^ 32)) }
     ensures room { reader.new.room ≡ reader.old.room }
     ensures fault { IfErr result (λ error. IsSome (fault_of error)) }
 {
     let start = reader.bytes;
     let height = size_of(reader)?;
-    if width * height > cells {
+    if width * height > limits.cells || height > limits.rows {
         reader.bytes = start;
         return Err(ReadError::Limit);
     }

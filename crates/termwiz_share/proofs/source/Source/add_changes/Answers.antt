@@ -1,4 +1,7 @@
 use Rattle.termwiz_cell.specs.Measure.{measure}
+use Rattle.std.proofs.Common.{ap}
+use Rattle.termwiz_surface.specs.Surface.{SurfaceValue}
+use Rattle.termwiz_share.proofs.Remembered.{names-after}
 use Rattle.termwiz_share.proofs.Served.{keeps_after}
 use Rattle.termwiz_surface.proofs.RowNumbers.{numbers-then}
 use Rattle.termwiz_share.proofs.source.Source.add_changes.Goals as goal
@@ -12,3 +15,6 @@ returns-clause-followed g c = rw (← c.self.view_is) (λ v follows. c.add_chang
 
 pub returns-clause-numbered : goal.returns-clause-numbered
 returns-clause-numbered g c = rw (← c.self.view_is) (numbers-then c.self.inside.surface c.forget_unneeded.new.self c.add_changes.new.self c.forget_unneeded.ensures.numbered c.add_changes.ensures.numbered)
+
+pub returns-clause-remembered : goal.returns-clause-remembered
+returns-clause-remembered g c = rw (← c.self.view_is) (names-after (measure g.W.Widths.width_of) c.self.inside.surface c.forget_unneeded.new.self c.add_changes.new.self (ap (λ (s : SurfaceValue _). s.widths) c.forget_unneeded.ensures.forgets) c.forget_unneeded.ensures.remembered c.add_changes.ensures.remembered)

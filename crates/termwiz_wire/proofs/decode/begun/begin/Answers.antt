@@ -15,11 +15,11 @@ hand_is : (g : Over) (c : After-head_of g) → c.rest-len.result.now ≡ take c.
 hand_is g c = c.rest-len.ensures.value ∙ c.with_limit-reader.ensures.bytes
 
 -- what the head shows is a stop of the bytes within the limit
-stops : (g : Over) (c : In-Err g) → Stops (allowed c.head_of.new.reader.room c.head_of.new.reader.bytes.now) c.in-Err.error (head_at (c.args.limits.bytes - length c.args.bytes.now) c.args.limits.cells (take c.args.limits.bytes c.args.bytes.now))
+stops : (g : Over) (c : In-Err g) → Stops (allowed c.head_of.new.reader.room c.head_of.new.reader.bytes.now) c.in-Err.error (head_at (c.args.limits.bytes - length c.args.bytes.now) c.args.limits (take c.args.limits.bytes c.args.bytes.now))
 stops g c =
     let at : ℕ = allowed c.head_of.new.reader.room c.head_of.new.reader.bytes.now in
-    subst (λ (b : List ℕ). Stops at c.in-Err.error (head_at (c.args.limits.bytes - length c.args.bytes.now) c.args.limits.cells b)) c.with_limit-reader.ensures.bytes
-    (subst (λ (n : ℕ). Stops at c.in-Err.error (head_at n c.args.limits.cells c.with_limit-reader.result.bytes.now)) c.with_limit-reader.ensures.room c.in-Err.ensures.value)
+    subst (λ (b : List ℕ). Stops at c.in-Err.error (head_at (c.args.limits.bytes - length c.args.bytes.now) c.args.limits b)) c.with_limit-reader.ensures.bytes
+    (subst (λ (n : ℕ). Stops at c.in-Err.error (head_at n c.args.limits c.with_limit-reader.result.bytes.now)) c.with_limit-reader.ensures.room c.in-Err.ensures.value)
 
 pub resume-requires : goal.resume-requires
 resume-requires g c =

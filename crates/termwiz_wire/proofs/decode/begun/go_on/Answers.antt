@@ -6,7 +6,9 @@ use Rattle.termwiz_cell.specs.Measure.{measure}
 use Rattle.termwiz_cell.specs.declared.change.Change.{Change}
 use Rattle.termwiz_surface.specs.Unlogged.{lent_value}
 use Rattle.termwiz_surface.specs.declared.surface.unlogged.LentChange.{LentChange}
-use Rattle.termwiz_wire.specs.Decoding.{change_at}
+use Rattle.termwiz_wire.specs.Answers.{next_at}
+use Rattle.termwiz_wire.specs.Work.{cost, spent_on}
+use Rattle.termwiz_wire.proofs.Bounds.{spent_more}
 use Rattle.termwiz_wire.proofs.Resuming.{gone_none, gone_more, gone_whole, gone_stopped}
 use Rattle.termwiz_wire.proofs.decode.begun.go_on.Goals as goal
 
@@ -22,7 +24,9 @@ pushed begun changes after c is =
 pub changes-init : goal.changes-init
 changes-init g c = record {
   gone = gone_none (measure g.W.Widths.width_of c.args.widths.now) c.args.reader.now.room c.args.head (map change_value c.args.begun.now ++ map lent_value c.args.changes.now.items) c.args.reader.now.bytes.now;
-  fits = c.requires;
+  fits = c.requires.bytes;
+  spent = c.requires.spent;
+  few = c.requires.few;
   room = refl;
 }
 
@@ -32,12 +36,14 @@ changes-preserved g c =
     let more : List ChangeValue = map change_value c.args.begun.now ++ map lent_value c.changes.changes.items in
     let lens : length more ≡ length c.args.begun.now + length c.changes.changes.items = lens_of_both c.args.begun.now c.changes.changes.items in
     let e : map change_value c.args.begun.now ++ map lent_value c.push.new.self.items ≡ more ++ lent_value c.in-Ok.change ∷ [] = pushed c.args.begun.now c.changes.changes.items c.push.new.self.items c.in-Ok.change c.in_ok-push-in-Ok.ensures.items in
-    let read : change_at m c.args.reader.now.room (Some c.args.head.height) c.changes.reader.bytes.now ≡ Ok (lent_value c.in-Ok.change, c.change_of.new.reader.bytes.now) = subst (λ (r : ℕ). change_at m r (Some c.args.head.height) c.changes.reader.bytes.now ≡ Ok (lent_value c.in-Ok.change, c.change_of.new.reader.bytes.now)) c.changes.invariant.room c.in-Ok.ensures.value in
+    let read : next_at m c.args.reader.now.room (Some c.args.head) (spent_on (Some c.args.head) more) c.changes.reader.bytes.now ≡ Ok (lent_value c.in-Ok.change, c.next_of.new.reader.bytes.now) = subst (λ (k : ℕ). next_at m c.args.reader.now.room (Some c.args.head) k c.changes.reader.bytes.now ≡ Ok (lent_value c.in-Ok.change, c.next_of.new.reader.bytes.now)) c.changes.invariant.spent (subst (λ (r : ℕ). next_at m r (Some c.args.head) c.changes.spent c.changes.reader.bytes.now ≡ Ok (lent_value c.in-Ok.change, c.next_of.new.reader.bytes.now)) c.changes.invariant.room c.in-Ok.ensures.value) in
     let lt : length more < c.args.head.count = omega (arith, lens, c.saturating_sub-count.ensures) in
-    let next = gone_more m c.args.reader.now.room c.args.head (map change_value c.args.begun.now ++ map lent_value c.args.changes.now.items) c.args.reader.now.bytes.now more c.changes.reader.bytes.now (lent_value c.in-Ok.change) c.change_of.new.reader.bytes.now c.changes.invariant.gone c.changes.invariant.fits lt read in
+    let next = gone_more m c.args.reader.now.room c.args.head (map change_value c.args.begun.now ++ map lent_value c.args.changes.now.items) c.args.reader.now.bytes.now more c.changes.reader.bytes.now (lent_value c.in-Ok.change) c.next_of.new.reader.bytes.now c.changes.invariant.gone c.changes.invariant.fits lt read in
     record {
       gone = rw e next.0;
       fits = next.1;
+      spent = rw e (c.in-Ok.ensures.spent ∙ ap (λ (n : ℕ). n + cost (Some c.args.head) (lent_value c.in-Ok.change)) c.changes.invariant.spent ∙ sym (spent_more (Some c.args.head) more (lent_value c.in-Ok.change)));
+      few = c.in-Ok.ensures.few;
       room = c.in-Ok.ensures.room ∙ c.changes.invariant.room;
     }
 
@@ -53,9 +59,9 @@ returns-in-Truncated-clause-goes g c =
     let m : List ℕ → ℕ = measure g.W.Widths.width_of c.args.widths.now in
     let more : List ChangeValue = map change_value c.args.begun.now ++ map lent_value c.changes.changes.items in
     let lens : length more ≡ length c.args.begun.now + length c.changes.changes.items = lens_of_both c.args.begun.now c.changes.changes.items in
-    let at : ℕ = allowed c.change_of.new.reader.room c.change_of.new.reader.bytes.now in
+    let at : ℕ = allowed c.next_of.new.reader.room c.next_of.new.reader.bytes.now in
     let lt : length more < c.args.head.count = omega (arith, lens, c.saturating_sub-count.ensures) in
-    let stops : Stops at c.in-Err.error (change_at m c.args.reader.now.room (Some c.args.head.height) c.changes.reader.bytes.now) = subst (λ (r : ℕ). Stops at c.in-Err.error (change_at m r (Some c.args.head.height) c.changes.reader.bytes.now)) c.changes.invariant.room c.in-Err.ensures.value in
+    let stops : Stops at c.in-Err.error (next_at m c.args.reader.now.room (Some c.args.head) (spent_on (Some c.args.head) more) c.changes.reader.bytes.now) = subst (λ (k : ℕ). Stops at c.in-Err.error (next_at m c.args.reader.now.room (Some c.args.head) k c.changes.reader.bytes.now)) c.changes.invariant.spent (subst (λ (r : ℕ). Stops at c.in-Err.error (next_at m r (Some c.args.head) c.changes.spent c.changes.reader.bytes.now)) c.changes.invariant.room c.in-Err.ensures.value) in
     let stopped = gone_stopped m c.args.reader.now.room c.args.head (map change_value c.args.begun.now ++ map lent_value c.args.changes.now.items) c.args.reader.now.bytes.now more c.changes.reader.bytes.now at c.in-Err.error c.changes.invariant.gone lt stops in
     (c.changes.invariant.gone, _, rw c.in-Truncated.is at stopped, refl)
 
@@ -64,9 +70,15 @@ returns-in_default-clause-goes g c =
     let m : List ℕ → ℕ = measure g.W.Widths.width_of c.args.widths.now in
     let more : List ChangeValue = map change_value c.args.begun.now ++ map lent_value c.changes.changes.items in
     let lens : length more ≡ length c.args.begun.now + length c.changes.changes.items = lens_of_both c.args.begun.now c.changes.changes.items in
-    let at : ℕ = allowed c.change_of.new.reader.room c.change_of.new.reader.bytes.now in
+    let at : ℕ = allowed c.next_of.new.reader.room c.next_of.new.reader.bytes.now in
     let lt : length more < c.args.head.count = omega (arith, lens, c.saturating_sub-count.ensures) in
-    let stops : Stops at c.in-Err.error (change_at m c.args.reader.now.room (Some c.args.head.height) c.changes.reader.bytes.now) = subst (λ (r : ℕ). Stops at c.in-Err.error (change_at m r (Some c.args.head.height) c.changes.reader.bytes.now)) c.changes.invariant.room c.in-Err.ensures.value in
+    let stops : Stops at c.in-Err.error (next_at m c.args.reader.now.room (Some c.args.head) (spent_on (Some c.args.head) more) c.changes.reader.bytes.now) = subst (λ (k : ℕ). Stops at c.in-Err.error (next_at m c.args.reader.now.room (Some c.args.head) k c.changes.reader.bytes.now)) c.changes.invariant.spent (subst (λ (r : ℕ). Stops at c.in-Err.error (next_at m r (Some c.args.head) c.changes.spent c.changes.reader.bytes.now)) c.changes.invariant.room c.in-Err.ensures.value) in
     let stopped = gone_stopped m c.args.reader.now.room c.args.head (map change_value c.args.begun.now ++ map lent_value c.args.changes.now.items) c.args.reader.now.bytes.now more c.changes.reader.bytes.now at c.in-Err.error c.changes.invariant.gone lt stops in
     let len : length c.args.begun.now + c.len-in_default.result ≡ length more = omega (arith, lens, c.len-in_default.ensures) in
     (c.in_default.not-Truncated, rw len stopped)
+
+pub returns-in-Truncated-clause-spent : goal.returns-in-Truncated-clause-spent
+returns-in-Truncated-clause-spent g c = c.in-Err.ensures.kept ∙ c.changes.invariant.spent
+
+pub returns-in-Truncated-clause-few : goal.returns-in-Truncated-clause-few
+returns-in-Truncated-clause-few g c = rw c.in-Err.ensures.kept c.changes.invariant.few

@@ -35,7 +35,7 @@ lent_is : (begun changes : List Change) (more : List LentChange) → begun ≡ c
 lent_is begun changes more is = ap (λ (cs : List Change). map change_value cs ++ map lent_value more) (sym is)
 
 -- the whole answer
-whole : (g : Over) (c : After-lent_from g) → answer_in (measure g.W.Widths.width_of c.args.widths.now) (c.args.limits.bytes - length c.args.bytes.now) c.args.limits.cells (take c.args.limits.bytes c.args.bytes.now) ≡ Ok (sent_of c.args.begun.head (map change_value c.deref.result.now ++ map lent_value c.go_on.new.changes.items), c.go_on.new.reader.bytes.now)
+whole : (g : Over) (c : After-lent_from g) → answer_in (measure g.W.Widths.width_of c.args.widths.now) (c.args.limits.bytes - length c.args.bytes.now) c.args.limits (take c.args.limits.bytes c.args.bytes.now) ≡ Ok (sent_of c.args.begun.head (map change_value c.deref.result.now ++ map lent_value c.go_on.new.changes.items), c.go_on.new.reader.bytes.now)
 whole g c =
     let start : List ℕ = take (length c.rest-hand.result.now - c.args.begun.taken) (drop c.args.begun.taken c.rest-hand.result.now) in
     goes_whole (measure g.W.Widths.width_of c.args.widths.now) c.args.limits c.args.bytes.now c.args.begun c.requires c.with_limit-reader.result.room start (map change_value c.deref.result.now ++ map lent_value c.new-more.result.items) (map change_value c.deref.result.now ++ map lent_value c.go_on.new.changes.items) c.go_on.new.reader.room c.go_on.new.reader.bytes.now c.with_limit-reader.ensures.room (none_more c.deref.result.now c.args.begun.changes.items c.new-more.result.items c.deref.ensures.value c.new-more.ensures.items) (start_is g (goal.at.returns-in-Ok-true-clause-exact g c).After-go_on) c.in-Ok-true.field-0 c.in-Ok-true.field-0-test c.in-Ok-true.ensures.goes
@@ -62,14 +62,15 @@ returns-in-Ok-true-clause-found g c = ((taken g c).parts, (taken g c).fits)
 pub returns-in-Ok-true-clause-named : goal.returns-in-Ok-true-clause-named
 returns-in-Ok-true-clause-named g c =
     let source : c.lent_from.result.source ≡ c.args.begun.head.source = ap (λ (s : SentAnswer). s.source) (same g c) in
-    rw source (answer_takes (measure g.W.Widths.width_of c.args.widths.now) (c.args.limits.bytes - length c.args.bytes.now) c.args.limits.cells (take c.args.limits.bytes c.args.bytes.now) (sent_of c.args.begun.head (map change_value c.deref.result.now ++ map lent_value c.go_on.new.changes.items), c.go_on.new.reader.bytes.now) (fits g (goal.at.returns-in-Ok-true-clause-named g c).After-go_on) (whole g c)).named
+    rw source (answer_takes (measure g.W.Widths.width_of c.args.widths.now) (c.args.limits.bytes - length c.args.bytes.now) c.args.limits (take c.args.limits.bytes c.args.bytes.now) (sent_of c.args.begun.head (map change_value c.deref.result.now ++ map lent_value c.go_on.new.changes.items), c.go_on.new.reader.bytes.now) (fits g (goal.at.returns-in-Ok-true-clause-named g c).After-go_on) (whole g c)).named
 
 pub returns-in-Ok-false-clause-exact : goal.returns-in-Ok-false-clause-exact
 returns-in-Ok-false-clause-exact g c =
     let before = (goal.at.returns-in-Ok-false-clause-exact g c).After-go_on in
     let start : List ℕ = take (length c.rest-hand.result.now - c.args.begun.taken) (drop c.args.begun.taken c.rest-hand.result.now) in
-    goes_cut (measure g.W.Widths.width_of c.args.widths.now) c.args.limits c.args.bytes.now c.args.begun c.requires c.with_limit-reader.result.room start (map change_value c.deref.result.now ++ map lent_value c.new-more.result.items) (map change_value c.deref.result.now ++ map lent_value c.go_on.new.changes.items) c.go_on.new.reader.room c.go_on.new.reader.bytes.now c.with_limit-reader.ensures.room (none_more c.deref.result.now c.args.begun.changes.items c.new-more.result.items c.deref.ensures.value c.new-more.ensures.items) (start_is g before) c.in_ok-changes-in-Ok-false.changes c.in-Ok-false.field-0 c.saturating_sub-taken-in-Ok-false.result (c.in_ok-changes-in-Ok-false.ensures ∙ lent_is c.deref.result.now c.args.begun.changes.items c.go_on.new.changes.items c.deref.ensures.value) c.in-Ok-false.field-0-test c.in-Ok-false.ensures.goes
+    goes_cut (measure g.W.Widths.width_of c.args.widths.now) c.args.limits c.args.bytes.now c.args.begun c.requires c.with_limit-reader.result.room start (map change_value c.deref.result.now ++ map lent_value c.new-more.result.items) (map change_value c.deref.result.now ++ map lent_value c.go_on.new.changes.items) c.go_on.new.reader.room c.go_on.new.reader.bytes.now c.with_limit-reader.ensures.room (none_more c.deref.result.now c.args.begun.changes.items c.new-more.result.items c.deref.ensures.value c.new-more.ensures.items) (start_is g before) c.in_ok-changes-in-Ok-false.changes c.in-Ok-false.field-0 c.saturating_sub-taken-in-Ok-false.result c.go_on.new.spent (c.in_ok-changes-in-Ok-false.ensures ∙ lent_is c.deref.result.now c.args.begun.changes.items c.go_on.new.changes.items c.deref.ensures.value) c.in-Ok-false.field-0-test c.in-Ok-false.ensures.goes
     (lens_of c.rest-hand.result.now (take c.args.limits.bytes c.args.bytes.now) c.go_on.new.reader.bytes.now c.saturating_sub-taken-in-Ok-false.result c.saturating_sub-taken-in-Ok-false.ensures (hand_is g before))
+    c.in-Ok-false.ensures.spent c.in-Ok-false.ensures.few
 
 pub returns-clause-exact : goal.returns-clause-exact
 returns-clause-exact g c =

@@ -188,7 +188,9 @@ def numbers():
         text = module.path.read_text()
         arms = re.findall(r"(\d+) => (?:Some|Ok)\((\w+)::(\w+)", text) + [
             (number, "Failure", name)
-            for name, number in re.findall(r"Err\(Failure::(\w+)\) => (\d+),", text)]
+            for name, number in re.findall(r"Err\(Failure::(\w+)\) => (\d+),", text)] + [
+            (number, "Choice", name)
+            for name, number in re.findall(r"Choice::(\w+)(?:\(_\))? => (\d+),", text)]
         for number, enum, variant in arms:
             if enum in ENUMS:
                 variant = NAMES.get(variant) or re.sub(r"(?<=[a-z])(?=[A-Z])", "_", variant)

@@ -30,10 +30,10 @@ static void test_versions(void) {
 
 /* Each status has a text of its own, and all other numbers have one. */
 static void test_texts(void) {
-    const tk_status others[] = {-1, TK_SHORT + 1, 255, INT32_MIN, INT32_MAX};
+    const tk_status others[] = {-1, TK_OTHER_WIDTHS + 1, 255, INT32_MIN, INT32_MAX};
     for (size_t i = 0; i < sizeof others / sizeof *others; i++)
         CHECK(same(tk_strerror(others[i]), "unknown status"));
-    for (tk_status status = TK_DONE; status <= TK_SHORT; status++) {
+    for (tk_status status = TK_DONE; status <= TK_OTHER_WIDTHS; status++) {
         CHECK(!same(tk_strerror(status), "unknown status"));
         for (tk_status other = TK_DONE; other < status; other++)
             CHECK(!same(tk_strerror(status), tk_strerror(other)));

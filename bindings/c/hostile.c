@@ -322,6 +322,7 @@ static void freed_handles(void) {
     tk_fault fault;
     char text[4];
     uint8_t bytes[20];
+    tk_width_range range;
     tk_taken taken;
     size_t number = 0, len = 0;
     for (int round = 0; round < 3; round++) {
@@ -343,6 +344,7 @@ static void freed_handles(void) {
         EXPECT(tk_client_reset(&handle) == TK_NO_HANDLE);
         EXPECT(tk_number(&handle, &number) == TK_NO_HANDLE);
         EXPECT(tk_state(&handle, &settings) == TK_NO_HANDLE);
+        EXPECT(tk_widths(&handle, bytes, &range, 1, &len) == TK_NO_HANDLE);
         EXPECT(tk_pen_link(&handle, text, sizeof text, &len) == TK_NO_HANDLE);
         EXPECT(tk_line_attribute(&handle, 0, bytes) == TK_NO_HANDLE);
         EXPECT(tk_viewer_new(&other, &handle) == TK_NO_HANDLE);

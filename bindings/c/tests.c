@@ -640,9 +640,11 @@ static void test_follows_others(void) {
     CHECK(tk_follow(&viewer, &first) == TK_DONE && screen_is(&viewer, "aaa\n"));
     CHECK(tk_follow(&viewer, &second) == TK_DONE && screen_is(&viewer, "b\n"));
     CHECK(print(&narrow, "かか") == TK_DONE);
+    CHECK(tk_follow(&viewer, &narrow) == TK_OTHER_WIDTHS && screen_is(&viewer, "b\n"));
+    CHECK(tk_follow(&viewer, &first) == TK_DONE && screen_is(&viewer, "aaa\n"));
+    CHECK(tk_viewer_new(&viewer, &narrow) == TK_DONE);
     CHECK(tk_follow(&viewer, &narrow) == TK_DONE && screen_is(&viewer, "かか\n"));
     CHECK(cursor_is(&viewer, 2, 0));
-    CHECK(tk_follow(&viewer, &first) == TK_DONE && screen_is(&viewer, "aaa\n"));
     tk_free(&viewer);
     tk_free(&narrow);
     tk_free(&second);

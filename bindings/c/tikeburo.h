@@ -60,16 +60,17 @@ extern "C" {
  * TK_MEMORY where it takes memory. Unless it says more, an error has changed nothing. */
 typedef int32_t tk_status;
 enum {
-    TK_DONE = 0,       /* done */
-    TK_MEMORY = 1,     /* memory was refused */
-    TK_UNREADABLE = 2, /* a text is no UTF-8, or bytes are no encoding of what is wanted */
-    TK_TRUNCATED = 3,  /* bytes end before what is wanted does: more would have to come */
-    TK_REGION = 4,     /* the region of a scroll goes past the last row */
-    TK_NUMBERS = 5,    /* the numbers of changes are used up */
-    TK_NO_HANDLE = 6,  /* a handle has no value, or is given twice */
-    TK_WRONG_KIND = 7, /* a handle has another kind of value than a call takes */
-    TK_RANGE = 8,      /* a row, a column, a size or another number is outside of its range */
-    TK_SHORT = 9       /* the buffer is too short: *len is the length that is needed */
+    TK_DONE = 0,         /* done */
+    TK_MEMORY = 1,       /* memory was refused */
+    TK_UNREADABLE = 2,   /* a text is no UTF-8, or bytes are no encoding of what is wanted */
+    TK_TRUNCATED = 3,    /* bytes end before what is wanted does: more would have to come */
+    TK_REGION = 4,       /* the region of a scroll goes past the last row */
+    TK_NUMBERS = 5,      /* the numbers of changes are used up */
+    TK_NO_HANDLE = 6,    /* a handle has no value, or is given twice */
+    TK_WRONG_KIND = 7,   /* a handle has another kind of value than a call takes */
+    TK_RANGE = 8,        /* a row, a column, a size or another number is outside of its range */
+    TK_SHORT = 9,        /* the buffer is too short: *len is the length that is needed */
+    TK_OTHER_WIDTHS = 10 /* two handles measure texts by different widths (tk_widths) */
 };
 
 /* What a status says, in English, with no full stop. The text is never NULL, and stays as it is. */
@@ -95,6 +96,8 @@ static inline const char *tk_strerror(tk_status status) {
         return "a row, a column, a size or another number is outside of its range";
     case TK_SHORT:
         return "the buffer is too short";
+    case TK_OTHER_WIDTHS:
+        return "the two handles measure texts by different widths";
     default:
         return "unknown status";
     }
@@ -188,8 +191,9 @@ typedef struct tk_settings {
 
 /* How texts are measured. */
 enum {
-    TK_WIDTHS_UNICODE = 0,   /* by the Unicode tables: 0 to 2 columns */
-    TK_WIDTHS_ONE_COLUMN = 1 /* one column for each grapheme */
+    TK_WIDTHS_UNICODE = 0,    /* by the Unicode tables: 0 to 2 columns */
+    TK_WIDTHS_ONE_COLUMN = 1, /* one column for each grapheme */
+    TK_WIDTHS_TABLE = 2       /* by a table, which tk_surface_new_by and its siblings take */
 };
 
 /* Makes a blank surface of this width in columns and height in rows, each from 1 to 2^32 - 1, with
@@ -236,6 +240,14 @@ tk_status tk_number(tk_handle *handle, size_t *number);
 
 /* The width in columns and the height in rows. */
 tk_status tk_size(tk_handle *handle, size_t *width, size_t *height);
+
+/* By which widths texts are measured: *kind is TK_WIDTHS_UNICODE .., and a table has *count ranges,
+ * which are copied; other widths have 0. TK_SHORT: it is a table, and *kind is as it was too.
+ *
+ * A call that draws, compares or follows returns TK_OTHER_WIDTHS where its two handles have widths
+ * of two kinds, or tables whose ranges differ. Where a table lies makes no difference. */
+tk_status tk_widths(tk_handle *handle, uint8_t *kind, tk_width_range *ranges, size_t room,
+                    size_t *count);
 
 /* The cursor's column and row. The column is the width where a wrap is pending. */
 tk_status tk_cursor(tk_handle *handle, size_t *column, size_t *row);
@@ -461,10 +473,10 @@ tk_status tk_diff_screens_distinct(tk_handle *handle, tk_handle *other, tk_chang
 /* The changes that turn what the first handle shows into what the other one shows, as
  * tk_get_changes writes changes: each handle has a surface, or a viewer or a client that shows one.
  * They are moves, pens and texts alone, and print each cell that differs once. Made by a surface
- * that shows what the first one shows and has the widths of the other one, they give it the other
- * one's rows, in which links have their uris alone. There are none where the rows are equal. Where
- * the sizes differ, what fits in both is compared. Cursor, title, and what else is set beside the
- * rows, are not compared. counts->number is 0. TK_SHORT: as above. */
+ * that shows what the first one shows and has its widths, they give it the other one's rows, in
+ * which links have their uris alone. There are none where the rows are equal. Where the sizes
+ * differ, what fits in both is compared. Cursor, title, and what else is set beside the rows, are
+ * not compared. counts->number is 0. TK_OTHER_WIDTHS. TK_SHORT: as above. */
 static inline tk_status tk_diff_screens(tk_handle *handle, tk_handle *other, tk_change *changes,
                                         size_t change_room, char *texts, size_t room,
                                         tk_list_counts *counts) {
@@ -481,7 +493,7 @@ tk_status tk_diff_region_distinct(tk_handle *handle, size_t column, size_t row, 
 /* As tk_diff_screens, of the region of this column, row, width and height, which is compared with
  * that of this size at another column and row of the other one. Both are cut to what fits, and
  * where one begins outside, there are no changes. A wide grapheme that crosses an edge of its
- * region is printed whole. TK_SHORT: as above. */
+ * region is printed whole. TK_OTHER_WIDTHS. TK_SHORT: as above. */
 static inline tk_status tk_diff_region(tk_handle *handle, size_t column, size_t row, size_t width,
                                        size_t height, tk_handle *other, size_t other_column,
                                        size_t other_row, tk_change *changes, size_t change_room,
@@ -636,7 +648,7 @@ static inline tk_status tk_set_line_attribute(tk_handle *surface, uint8_t attrib
 tk_status tk_draw_distinct(tk_handle *surface, tk_handle *source, size_t column, size_t row);
 
 /* Draws what the source shows, of any kind, from this column and row on. What doesn't fit
- * is left out. Cursor and pen are as before. It is logged as a list of changes. */
+ * is left out. Cursor and pen are as before. It is logged as a list of changes. TK_OTHER_WIDTHS. */
 static inline tk_status tk_draw(tk_handle *surface, tk_handle *source, size_t column, size_t row) {
     return surface == source ? TK_NO_HANDLE : tk_draw_distinct(surface, source, column, row);
 }
@@ -736,8 +748,8 @@ tk_status tk_lines_wrap(tk_handle *lines, size_t width);
 
 tk_status tk_viewer_new_distinct(tk_handle *viewer, tk_handle *source);
 
-/* Makes a viewer for what the source shows, of any kind: blank, and of the source's size. What the
- * first handle had is freed. */
+/* Makes a viewer for what the source shows, of any kind: blank, and of the source's size and
+ * widths. What the first handle had is freed. */
 static inline tk_status tk_viewer_new(tk_handle *viewer, tk_handle *source) {
     return viewer == source ? TK_NO_HANDLE : tk_viewer_new_distinct(viewer, source);
 }
@@ -746,8 +758,9 @@ tk_status tk_follow_distinct(tk_handle *viewer, tk_handle *source);
 
 /* The viewer shows what the source shows: its size too. It makes the changes since it followed
  * last, where that was the same surface and those are known, and else all anew; of a viewer or a
- * client always all. TK_WRONG_KIND: the first handle has no viewer. TK_NUMBERS, TK_MEMORY: either
- * nothing has changed, or the viewer may show anything, and gets all anew the next time. */
+ * client always all. TK_WRONG_KIND: the first handle has no viewer. TK_OTHER_WIDTHS. TK_NUMBERS,
+ * TK_MEMORY: either nothing has changed, or the viewer may show anything, and gets all anew the
+ * next time. */
 static inline tk_status tk_follow(tk_handle *viewer, tk_handle *source) {
     return viewer == source ? TK_NO_HANDLE : tk_follow_distinct(viewer, source);
 }
@@ -779,8 +792,9 @@ typedef struct tk_head {
 tk_status tk_answer_head(const uint8_t *bytes, size_t len, tk_head *head);
 
 /* Makes a client that shows nothing yet: a blank of one column and one row. It measures by these
- * widths, and takes no answer of more cells (width times height) or bytes. What the handle had is
- * freed. TK_RANGE: widths, or 0 bytes. */
+ * widths, and takes no answer of more cells (width times height) or bytes, nor of more than 65,536
+ * rows, nor one whose changes cost more than its screen bears (docs/VIEWER.md, "Limits"). What the
+ * handle had is freed. TK_RANGE: widths, or 0 bytes. */
 tk_status tk_client_new(tk_handle *client, uint8_t widths, size_t cells, size_t bytes);
 
 /* Makes a client as tk_client_new does, which measures by a table of widths (tk_surface_new_by), as
@@ -805,7 +819,8 @@ enum {
     TK_FAULT_REGION = 4,  /* the region of a scroll goes past the last row */
     TK_FAULT_SIZE = 5,    /* a delta has another size than what it leads on from */
     TK_FAULT_MEASURE = 6, /* a text is cut or measured in another way than the client does it */
-    TK_FAULT_LIMIT = 7    /* there are more cells or bytes than the client's limits */
+    TK_FAULT_LIMIT = 7    /* there are more cells, rows or bytes than the client takes,
+                             or the changes cost more than their screen bears */
 };
 
 /* Takes the next bytes of a stream of answers, and writes how many answers are whole then. Of each

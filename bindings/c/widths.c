@@ -1,5 +1,6 @@
 /* Tables of widths: what makes one, how texts are measured by it, and that it can say what wcwidth
- * says. It ends with `N checks`, and with status 1 where any of them failed. */
+ * says; and that calls of two handles refuse those of different widths. It ends with `N checks`,
+ * and with status 1 where any of them failed. */
 #define _XOPEN_SOURCE 700
 #include "checks.h"
 #include "tikeburo.h"
@@ -81,6 +82,168 @@ static void test_surfaces(void) {
     tk_free(&other);
 }
 
+/* A choice of widths, with the ranges of a table. */
+typedef struct choice {
+    uint8_t kind;
+    const tk_width_range *ranges;
+    size_t count;
+} choice;
+
+static const tk_width_range EQUAL[] = {
+    {'a', 'z', 1}, {0x300, 0x36f, 0}, {0x2026, 0x2026, 2}, {0x1f1e6, 0x1f1ff, 1}};
+static const tk_width_range FIRST[] = {
+    {'b', 'z', 1}, {0x300, 0x36f, 0}, {0x2026, 0x2026, 2}, {0x1f1e6, 0x1f1ff, 1}};
+static const tk_width_range LAST[] = {
+    {'a', 'z', 1}, {0x300, 0x36f, 0}, {0x2026, 0x2027, 2}, {0x1f1e6, 0x1f1ff, 1}};
+static const tk_width_range COLUMNS[] = {
+    {'a', 'z', 1}, {0x300, 0x36f, 0}, {0x2026, 0x2026, 2}, {0x1f1e6, 0x1f1ff, 2}};
+
+/* The first two are the same, by the ranges, and all others differ. */
+static const choice CHOICES[] = {{TK_WIDTHS_TABLE, RANGES, 4},     {TK_WIDTHS_TABLE, EQUAL, 4},
+                                 {TK_WIDTHS_TABLE, FIRST, 4},      {TK_WIDTHS_TABLE, LAST, 4},
+                                 {TK_WIDTHS_TABLE, COLUMNS, 4},    {TK_WIDTHS_TABLE, RANGES, 3},
+                                 {TK_WIDTHS_TABLE, RANGES, 0},     {TK_WIDTHS_UNICODE, RANGES, 0},
+                                 {TK_WIDTHS_ONE_COLUMN, RANGES, 0}};
+
+static tk_handle made_by(choice widths, size_t width, size_t height) {
+    static size_t source = 2000;
+    tk_handle surface = TK_NONE;
+    tk_status status =
+        widths.kind == TK_WIDTHS_TABLE
+            ? tk_surface_new_by(&surface, width, height, widths.ranges, widths.count, ++source)
+            : tk_surface_new(&surface, width, height, widths.kind, ++source);
+    check(status == TK_DONE, "made_by", __LINE__);
+    return surface;
+}
+
+static tk_handle client_by(choice widths) {
+    tk_handle client = TK_NONE;
+    tk_status status = widths.kind == TK_WIDTHS_TABLE
+                           ? tk_client_new_by(&client, widths.ranges, widths.count, 99, 999)
+                           : tk_client_new(&client, widths.kind, 99, 999);
+    check(status == TK_DONE, "client_by", __LINE__);
+    return client;
+}
+
+/* Whether these are the widths of what the handle has, also where the room is just enough. */
+static bool widths_are(tk_handle *handle, choice wanted) {
+    tk_width_range ranges[5] = {{7, 7, 7}, {7, 7, 7}, {7, 7, 7}, {7, 7, 7}, {7, 7, 7}};
+    uint8_t kind = 99;
+    size_t count = 99;
+    bool same = tk_widths(handle, &kind, ranges, wanted.count, &count) == TK_DONE &&
+                kind == wanted.kind && count == wanted.count;
+    for (size_t k = 0; k < COUNT(ranges); k++) {
+        tk_width_range range = k < wanted.count ? wanted.ranges[k] : (tk_width_range){7, 7, 7};
+        same = same && ranges[k].first == range.first && ranges[k].last == range.last &&
+               ranges[k].columns == range.columns;
+    }
+    return same;
+}
+
+/* What a call says by which widths it measures, and by which a viewer of it does. */
+static void test_reads(void) {
+    for (size_t k = 0; k < COUNT(CHOICES); k++) {
+        tk_handle surface = made_by(CHOICES[k], 4, 1), client = client_by(CHOICES[k]);
+        tk_handle viewer = made(2, 2);
+        CHECK(tk_viewer_new(&viewer, &surface) == TK_DONE);
+        CHECK(widths_are(&surface, CHOICES[k]) && widths_are(&viewer, CHOICES[k]));
+        CHECK(widths_are(&client, CHOICES[k]) && tk_resize(&surface, 2, 2) == TK_DONE);
+        CHECK(tk_follow(&viewer, &surface) == TK_DONE && widths_are(&viewer, CHOICES[k]));
+        tk_free(&surface);
+        tk_free(&viewer);
+        tk_free(&client);
+    }
+}
+
+static void test_refused_reads(void) {
+    tk_handle surface = made_by(CHOICES[0], 4, 1), lines = TK_NONE, none = TK_NONE;
+    tk_width_range ranges[4] = {{7, 7, 7}, {7, 7, 7}, {7, 7, 7}, {7, 7, 7}};
+    uint8_t kind = 99;
+    size_t count = 99;
+    CHECK(tk_lines_new(&lines) == TK_DONE);
+    CHECK(tk_widths(&lines, &kind, ranges, 4, &count) == TK_WRONG_KIND && count == 99);
+    CHECK(tk_widths(&none, &kind, ranges, 4, &count) == TK_NO_HANDLE && count == 99);
+    CHECK(tk_widths(&surface, &kind, ranges, 3, &count) == TK_SHORT && count == 4);
+    CHECK(tk_widths(&surface, &kind, ranges, 0, &count) == TK_SHORT && count == 4);
+    CHECK(kind == 99 && ranges[0].columns == 7);
+    tk_free(&surface);
+    tk_free(&lines);
+}
+
+/* The calls that read two handles return this, and a refusal has changed nothing. */
+static void check_diffs(tk_handle *one, tk_handle *other, tk_status wanted) {
+    tk_list_counts counts = {99, 99, 99};
+    tk_change list[16];
+    char texts[64];
+    CHECK(tk_diff_screens(one, other, list, 16, texts, 64, &counts) == wanted);
+    CHECK((counts.changes == 99) == (wanted == TK_OTHER_WIDTHS));
+    counts.changes = 99;
+    CHECK(tk_diff_region(one, 0, 0, 2, 1, other, 1, 0, list, 16, texts, 64, &counts) == wanted);
+    CHECK((counts.changes == 99) == (wanted == TK_OTHER_WIDTHS));
+}
+
+/* A surface or a viewer of the one takes, or refuses, what a handle of the other shows. */
+static void check_source(choice widths, tk_handle *source, tk_status wanted) {
+    tk_handle surface = made_by(widths, 4, 2), viewer = TK_NONE;
+    bool takes = wanted == TK_DONE;
+    size_t number = 0, after = 0;
+    CHECK(print(&surface, "ABCDEFG") == TK_DONE && tk_viewer_new(&viewer, &surface) == TK_DONE);
+    CHECK(tk_follow(&viewer, &surface) == TK_DONE && tk_number(&surface, &number) == TK_DONE);
+    check_diffs(&surface, source, wanted);
+    check_diffs(source, &surface, wanted);
+    check_diffs(&viewer, source, wanted);
+    CHECK(tk_draw(&surface, source, 1, 0) == wanted);
+    CHECK(screen_is(&surface, takes ? "AWXY\nEFG\n" : "ABCD\nEFG\n") && cursor_is(&surface, 3, 1));
+    CHECK(tk_number(&surface, &after) == TK_DONE && (after > number) == takes);
+    CHECK(tk_follow(&viewer, source) == wanted);
+    CHECK(screen_is(&viewer, takes ? "WXYZ\n" : "ABCD\nEFG\n") && widths_are(&viewer, widths));
+    CHECK(tk_follow(&viewer, &surface) == TK_DONE);
+    CHECK(screen_is(&viewer, takes ? "AWXY\nEFG\n" : "ABCD\nEFG\n"));
+    tk_free(&surface);
+    tk_free(&viewer);
+}
+
+/* Each two choices, both ways, where a surface, a viewer and a client are what is shown. */
+static void test_two_handles(void) {
+    for (size_t k = 0; k < COUNT(CHOICES); k++) {
+        tk_handle source = made_by(CHOICES[k], 4, 1), viewer = TK_NONE;
+        tk_handle client = client_by(CHOICES[k]);
+        CHECK(print(&source, "WXYZ") == TK_DONE && tk_viewer_new(&viewer, &source) == TK_DONE);
+        CHECK(tk_follow(&viewer, &source) == TK_DONE);
+        bytes answer = answer_to(&source, &client);
+        CHECK(feed(&client, &answer) == TK_DONE);
+        for (size_t other = 0; other < COUNT(CHOICES); other++) {
+            tk_status wanted = k == other || k + other == 1 ? TK_DONE : TK_OTHER_WIDTHS;
+            check_source(CHOICES[other], &source, wanted);
+            check_source(CHOICES[other], &viewer, wanted);
+            check_source(CHOICES[other], &client, wanted);
+        }
+        tk_free(&source);
+        tk_free(&viewer);
+        tk_free(&client);
+    }
+}
+
+/* Graphemes of one column each would go on in the next row of a surface that gives them two. The
+ * other refusals come first. */
+static void test_narrow_source(void) {
+    tk_handle surface = made(4, 2), narrow = TK_NONE, viewer = TK_NONE, lines = TK_NONE;
+    tk_handle none = TK_NONE;
+    CHECK(tk_surface_new(&narrow, 4, 1, TK_WIDTHS_ONE_COLUMN, 3000) == TK_DONE);
+    CHECK(print(&narrow, "かきくけ") == TK_DONE && print(&surface, "ab\r\ncd") == TK_DONE);
+    CHECK(tk_draw(&surface, &narrow, 0, 0) == TK_OTHER_WIDTHS && screen_is(&surface, "ab\ncd\n"));
+    CHECK(tk_draw(&narrow, &surface, 0, 0) == TK_OTHER_WIDTHS && screen_is(&narrow, "かきくけ\n"));
+    CHECK(tk_viewer_new(&viewer, &narrow) == TK_DONE && tk_lines_new(&lines) == TK_DONE);
+    CHECK(tk_draw(&viewer, &surface, 0, 0) == TK_WRONG_KIND);
+    CHECK(tk_draw(&none, &narrow, 0, 0) == TK_NO_HANDLE);
+    CHECK(tk_draw(&surface, &lines, 0, 0) == TK_WRONG_KIND);
+    CHECK(tk_follow(&narrow, &surface) == TK_WRONG_KIND);
+    tk_free(&surface);
+    tk_free(&narrow);
+    tk_free(&viewer);
+    tk_free(&lines);
+}
+
 /* The table of what wcwidth says of each character, and the number of its ranges. */
 static tk_width_range of_system[8192];
 
@@ -124,6 +287,10 @@ int main(void) {
     test_texts();
     test_ranges();
     test_surfaces();
+    test_reads();
+    test_refused_reads();
+    test_two_handles();
+    test_narrow_source();
     test_system();
     printf("%d checks\n", checks);
     return failures != 0;

@@ -71,7 +71,8 @@ impl From<Ask> for Vec<u8> {
     }
 }
 
-/// The most that an answer may have, which a client checks before it takes memory.
+/// The most that an answer may have, which a client checks before it takes memory. It also takes no
+/// answer of more than 65,536 rows, and none whose changes cost more than its screen bears.
 ///
 /// ```
 /// use tikeburo::{Client, Error, Limits, Widths};
@@ -178,7 +179,7 @@ impl Client {
                 unsafe { ffi::tk_client_new_by(handle, ranges, count, cells, bytes) }
             }
         })?;
-        let screen = Screen { handle };
+        let screen = Screen { handle, widths };
         Ok(Client { screen })
     }
 

@@ -13,8 +13,8 @@ impl Screen {
     /// are equal. Where the sizes differ, what fits in both is compared. Cursor, title, and what
     /// else is set beside the rows, are not compared.
     ///
-    /// Made by a surface that shows what this screen does, they give it the other one's rows, where
-    /// both measure texts alike. A link has its uri alone.
+    /// Made by a surface that shows what this screen does, and measures texts as it does, they give
+    /// it the other one's rows. A link has its uri alone.
     ///
     /// ```
     /// use tikeburo::{Change, Error, Surface};
@@ -32,6 +32,7 @@ impl Screen {
     ///
     /// # Errors
     ///
+    /// [`Error::OtherWidths`]: the two measure texts by different [widths](Screen::widths).
     /// [`Error::Memory`].
     pub fn diff_screens(&self, other: &Screen) -> Result<Changes, Error> {
         if ptr::eq(self, other) {
@@ -55,7 +56,7 @@ impl Screen {
     ///
     /// # Errors
     ///
-    /// [`Error::Memory`].
+    /// Those of [`Screen::diff_screens`].
     #[allow(clippy::too_many_arguments)]
     pub fn diff_region(
         &self,

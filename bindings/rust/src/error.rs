@@ -22,6 +22,8 @@ pub enum Error {
     Numbers,
     /// A row, a column, a size, a limit or the number of a variant is outside of its range.
     Range,
+    /// The two screens that a call takes measure texts by different [`Widths`](crate::Widths).
+    OtherWidths,
     /// The library returned a number that this crate has no name for.
     Unknown(i32),
 }
@@ -37,6 +39,7 @@ impl Error {
             ffi::REGION => Err(Error::ScrollRegion),
             ffi::NUMBERS => Err(Error::Numbers),
             ffi::RANGE => Err(Error::Range),
+            ffi::OTHER_WIDTHS => Err(Error::OtherWidths),
             other => Err(Error::Unknown(other)),
         }
     }
@@ -54,6 +57,7 @@ impl fmt::Display for Error {
             Error::Range => {
                 f.write_str("a row, a column, a size or a limit is outside of its range")
             }
+            Error::OtherWidths => f.write_str("the two screens measure texts differently"),
             Error::Unknown(status) => write!(f, "unknown status {status}"),
         }
     }

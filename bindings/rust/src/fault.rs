@@ -33,7 +33,8 @@ pub enum FaultKind {
     Size,
     /// A text is cut or measured in another way than the client does it.
     Measure,
-    /// There are more cells or bytes than the client's limits.
+    /// There are more cells, rows or bytes than the client takes, or the changes cost more than
+    /// their screen bears.
     Limit,
 }
 

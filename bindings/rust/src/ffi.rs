@@ -11,6 +11,7 @@ pub const REGION: i32 = 4;
 pub const NUMBERS: i32 = 5;
 pub const RANGE: i32 = 8;
 pub const SHORT: i32 = 9;
+pub const OTHER_WIDTHS: i32 = 10;
 pub const CHANGE_TEXT: u8 = 0;
 pub const CHANGE_TITLE: u8 = 1;
 pub const CHANGE_LINK: u8 = 2;

@@ -8,6 +8,7 @@ use crate::error::Error;
 use crate::ffi::{self, tk_settings};
 use crate::handle::{self, Handle};
 use crate::rows::{Row, Rows};
+use crate::widths::Widths;
 use std::fmt;
 
 /// What a surface, a viewer or a client shows: rows of cells, and the cursor.
@@ -27,6 +28,7 @@ use std::fmt;
 /// ```
 pub struct Screen {
     pub(crate) handle: Handle,
+    pub(crate) widths: Widths,
 }
 
 impl Screen {
@@ -34,6 +36,27 @@ impl Screen {
     #[must_use]
     pub fn dimensions(&self) -> (usize, usize) {
         self.handle.numbers(ffi::tk_size).unwrap_or_default()
+    }
+
+    /// How texts are measured. A call that takes two screens fails with [`Error::OtherWidths`] where
+    /// theirs differ. Tables are equal where their ranges are.
+    ///
+    /// ```
+    /// use tikeburo::{Error, Options, Surface, Widths};
+    ///
+    /// let mut surface = Surface::new(8, 1)?;
+    /// let narrow = Surface::with_options(8, 1, Options::new().widths(Widths::OneColumn))?;
+    /// assert_ne!(surface.widths(), narrow.widths());
+    /// assert_eq!(surface.draw_from_screen(&narrow, 0, 0), Err(Error::OtherWidths));
+    ///
+    /// let options = Options::new().widths(surface.widths());
+    /// let alike = Surface::with_options(4, 1, options)?;
+    /// surface.draw_from_screen(&alike, 0, 0)?;
+    /// # Ok::<(), Error>(())
+    /// ```
+    #[must_use]
+    pub fn widths(&self) -> Widths {
+        self.widths
     }
 
     /// The cursor's column and row. The column is the width where a wrap is pending.

@@ -111,7 +111,7 @@ impl Surface {
                 unsafe { ffi::tk_surface_new_by(handle, width, height, ranges, count, source) }
             }
         })?;
-        let screen = Screen { handle };
+        let screen = Screen { handle, widths };
         Ok(Surface {
             screen,
             source,
@@ -120,7 +120,7 @@ impl Surface {
     }
 
     /// A surface that shows the rows that another screen shows now, as a copy to be drawn later,
-    /// and measures texts by Unicode. Cursor, pen and title are those of a new one. There is no
+    /// and measures texts as that does. Cursor, pen and title are those of a new one. There is no
     /// `Clone`, since that can't fail.
     ///
     /// # Errors
@@ -142,7 +142,8 @@ impl Surface {
     /// ```
     pub fn copy_of(screen: &Screen) -> Result<Surface, Error> {
         let (width, height) = screen.dimensions();
-        let mut surface = Surface::new(width, height)?;
+        let options = Options::new().widths(screen.widths());
+        let mut surface = Surface::with_options(width, height, options)?;
         surface.draw_from_screen(screen, 0, 0)?;
         Ok(surface)
     }
@@ -325,7 +326,9 @@ impl Surface {
     ///
     /// # Errors
     ///
-    /// [`Error::Numbers`] and [`Error::Memory`], as of [`Surface::add_change`].
+    /// [`Error::OtherWidths`]: the other one measures texts by other [widths](Screen::widths), and
+    /// nothing has changed. [`Error::Numbers`] and [`Error::Memory`], as of
+    /// [`Surface::add_change`].
     pub fn draw_from_screen(
         &mut self,
         other: &Screen,

@@ -24,7 +24,7 @@ pub struct Viewer {
 }
 
 impl Viewer {
-    /// A viewer for a surface, which shows nothing yet.
+    /// A viewer for a surface, which shows nothing yet, and measures texts as the surface does.
     ///
     /// # Errors
     ///
@@ -34,7 +34,8 @@ impl Viewer {
         let handle = Handle::made(|handle| unsafe {
             ffi::tk_viewer_new_distinct(handle, source.handle.get())
         })?;
-        let screen = Screen { handle };
+        let widths = source.widths();
+        let screen = Screen { handle, widths };
         Ok(Viewer { screen })
     }
 
@@ -44,8 +45,9 @@ impl Viewer {
     ///
     /// # Errors
     ///
-    /// [`Error::Memory`] and [`Error::Numbers`]: it may show anything, and the next call follows as
-    /// ever.
+    /// [`Error::OtherWidths`]: the source measures texts by other [widths](Screen::widths), and
+    /// nothing has changed. [`Error::Memory`] and [`Error::Numbers`]: it may show anything, and the
+    /// next call follows as ever.
     pub fn follow(&mut self, source: &Screen) -> Result<(), Error> {
         // Safety: both handles are live, and they are two, since one is borrowed alone.
         Error::check(unsafe {

@@ -15,7 +15,7 @@ use Rattle.tikeburo_c.specs.Outcomes.{Outcome}
 use Rattle.tikeburo_c.specs.Results.{Buffer, Gives, OnClient}
 use Rattle.tikeburo_c.specs.Streams.{AnswersIn, FeedsIn, GivesAsk, MayCarry, Reaches, Resets, ServesIn, ShowsAsBefore, named_ask}
 use Rattle.tikeburo_c.specs.declared.clients.FaultFields.{FaultFields}
-use Rattle.tikeburo_c.specs.declared.failure.Failure.TheVariants.{Memory, Unreadable, Truncated, Region, Numbers, NoHandle, WrongKind, Range, Short}
+use Rattle.tikeburo_c.specs.declared.failure.Failure.TheVariants.{Memory, Unreadable, Truncated, Region, Numbers, NoHandle, WrongKind, Range, Short, OtherWidths}
 use Rattle.tikeburo_c.specs.declared.kept.Kept.{Kept}
 use Rattle.tikeburo_c.specs.declared.kept.Kept.TheVariants.{Surface, Viewer, Client, Lines}
 use Rattle.tikeburo_c.specs.declared.widths.ChosenWidths.{ChosenWidths}
@@ -51,6 +51,7 @@ gives_ends bytes old new (Err Numbers) gives = absurd gives
 gives_ends bytes old new (Err NoHandle) gives = absurd gives
 gives_ends bytes old new (Err WrongKind) gives = absurd gives
 gives_ends bytes old new (Err Range) gives = absurd gives
+gives_ends bytes old new (Err OtherWidths) gives = absurd gives
 
 head_fits : (major n : ℕ) → length (head major n) ≤ 9
 unfolding head

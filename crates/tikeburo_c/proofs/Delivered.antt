@@ -16,7 +16,7 @@ use Rattle.tikeburo_c.specs.Streams.{AnswersAsk, AnswersIn, Fails, FeedsIn, Give
 use Rattle.tikeburo_c.specs.Widths.{columns_by}
 use Rattle.tikeburo_c.specs.declared.clients.FaultFields.{FaultFields}
 use Rattle.tikeburo_c.specs.declared.failure.Failure.{Failure}
-use Rattle.tikeburo_c.specs.declared.failure.Failure.TheVariants.{Memory, Unreadable, Truncated, Region, Numbers, NoHandle, WrongKind, Range, Short}
+use Rattle.tikeburo_c.specs.declared.failure.Failure.TheVariants.{Memory, Unreadable, Truncated, Region, Numbers, NoHandle, WrongKind, Range, Short, OtherWidths}
 use Rattle.tikeburo_c.specs.declared.kept.Kept.{Kept}
 use Rattle.tikeburo_c.specs.declared.kept.Kept.TheVariants.{Surface, Viewer, Client, Lines}
 use Rattle.tikeburo_c.specs.declared.widths.ChosenWidths.{ChosenWidths}
@@ -32,6 +32,7 @@ failed NoHandle e = cc
 failed WrongKind e = cc
 failed Range e = cc
 failed Short e = cc
+failed OtherWidths e = cc
 
 is_ok : (status : ℤ) (outcome : Outcome) → status ≡ status_of outcome → status ≡ pos 0 → outcome ≡ Ok tt
 is_ok status (Ok u) e done = refl
@@ -138,6 +139,7 @@ named_response s a bytes r = elim (cases_Bool (a.source == 0)) [
         from = inl (elim r.from [ inl e ↦ e | inr both ↦ both.1 ∙ zero ]);
         carries = r.carries;
         few = r.few;
+        borne = r.borne;
       }
 ]
 

@@ -11,6 +11,7 @@ pub mod ReadBack
 pub mod RowNeeds
 pub mod RowParts
 pub mod RowTexts
+pub mod SameRanges
 pub mod ShownRow
 pub mod Since
 pub mod WidthTables

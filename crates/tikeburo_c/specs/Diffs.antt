@@ -7,7 +7,8 @@ use Rattle.termwiz_surface.specs.Surface.{SurfaceValue, screen_of}
 use Rattle.tikeburo_c.specs.Getting.{GivesAll, ListPlace}
 use Rattle.tikeburo_c.specs.Kept.{shown_of}
 use Rattle.tikeburo_c.specs.Outcomes.{Outcome}
-use Rattle.tikeburo_c.specs.Results.{Reads, Refused, OfKind}
+use Rattle.tikeburo_c.specs.Results.{Reads, Refused, OfKind, OrNoMemory}
+use Rattle.tikeburo_c.specs.SameWidths.{WhereSame}
 use Rattle.tikeburo_c.specs.Widths.{columns_by}
 use Rattle.tikeburo_c.specs.declared.failure.Failure.TheVariants.{NoHandle}
 use Rattle.tikeburo_c.specs.declared.kept.Kept.{Kept}
@@ -49,6 +50,12 @@ pub record GivesDiff (region : Option Region) (s t : SurfaceValue ChosenWidths) 
   pub changes : List ChangeValue
   pub is_diff : IsDiff region s t changes
   pub gives : GivesAll changes 0 old outcome new
+
+-- where both measure by the same widths, unless memory was refused first
+abbrev pub GivesSameDiff :
+    Option Region → SurfaceValue ChosenWidths → SurfaceValue ChosenWidths → ListPlace → Outcome →
+    ListPlace → Type 0
+GivesSameDiff region s t = WhereSame s.widths t.widths (OrNoMemory (GivesDiff region s t))
 
 -- the call read this of the surfaces that two handles have, or that their viewers or clients show
 abbrev pub ReadsBoth :

@@ -8,6 +8,7 @@ use Rattle.tikeburo_c.specs.Changes.{GoesOn}
 use Rattle.tikeburo_c.specs.Kept.{shown_of}
 use Rattle.tikeburo_c.specs.Outcomes.{Outcome, changing_failure, outcome_of}
 use Rattle.tikeburo_c.specs.Results.{OnSurface, Refused, OfKind}
+use Rattle.tikeburo_c.specs.SameWidths.{WhereSame}
 use Rattle.tikeburo_c.specs.Widths.{columns_by}
 use Rattle.tikeburo_c.specs.declared.failure.Failure.TheVariants.{NoHandle}
 use Rattle.tikeburo_c.specs.declared.kept.Kept.{Kept}
@@ -34,8 +35,14 @@ Draws source x y old outcome new =
     (result : Result ℕ SurfaceError) × (outcome ≡ outcome_of changing_failure result) ×
     DrawsAs source x y old result new
 
+-- where both measure by the same widths
+abbrev pub DrawsSame :
+    SurfaceValue ChosenWidths → ℕ → ℕ → SourceValue ChosenWidths → Outcome →
+    SourceValue ChosenWidths → Type 0
+DrawsSame source x y old = WhereSame source.widths old.surface.widths (Draws source x y) old
+
 abbrev pub DrawsSource : Option Kept → ℕ → ℕ → Option Kept → Outcome → Option Kept → Type 0
-DrawsSource (Some source) x y = OfKind (λ s. OnSurface (Draws s x y)) (shown_of source)
+DrawsSource (Some source) x y = OfKind (λ s. OnSurface (DrawsSame s x y)) (shown_of source)
 DrawsSource None x y = Refused NoHandle
 
 -- a region is copied as the library copies it

@@ -10,6 +10,7 @@ use Rattle.termwiz_surface.specs.declared.surface.SurfaceError.{SurfaceError}
 use Rattle.tikeburo_c.specs.Kept.{number_of, shown_of}
 use Rattle.tikeburo_c.specs.Outcomes.{Outcome, changing_failure, outcome_of}
 use Rattle.tikeburo_c.specs.Results.{OnViewer, OrNoMemory, Refused, Returns, OfKind}
+use Rattle.tikeburo_c.specs.SameWidths.{WhereSame}
 use Rattle.tikeburo_c.specs.Widths.{columns_by}
 use Rattle.tikeburo_c.specs.declared.failure.Failure.TheVariants.{NoHandle}
 use Rattle.tikeburo_c.specs.declared.followers.Follower.{Follower}
@@ -85,9 +86,14 @@ FollowsOne number s old outcome new =
     (result : Result ℕ SurfaceError) × (outcome ≡ outcome_of changing_failure result) ×
     FollowsAs number s old result new
 
+-- where both measure by the same widths, unless memory was refused first
+abbrev pub FollowsSame : ℕ → SurfaceValue ChosenWidths → Follower → Outcome → Follower → Type 0
+FollowsSame number s old =
+    WhereSame s.widths old.viewer.surface.widths (OrNoMemory (FollowsOne number s)) old
+
 abbrev pub FollowsSource : Option Kept → Option Kept → Outcome → Option Kept → Type 0
 FollowsSource (Some source) =
-    OfKind (λ s. OnViewer (OrNoMemory (FollowsOne (number_of source) s))) (shown_of source)
+    OfKind (λ s. OnViewer (FollowsSame (number_of source) s)) (shown_of source)
 FollowsSource None = Refused NoHandle
 
 -- a blank viewer of what the source shows, which follows it

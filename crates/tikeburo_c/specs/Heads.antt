@@ -19,7 +19,7 @@ head_fields head = record {
 
 -- those of a `usize` alone
 abbrev pub no_limits : Limits
-no_limits = record { cells = 2 ^ 64 - 1; bytes = 2 ^ 64 - 1 }
+no_limits = record { cells = 2 ^ 64 - 1; rows = 2 ^ 64 - 1; bytes = 2 ^ 64 - 1 }
 
 -- the call returned this head, or refused the bytes by what is wrong with them
 abbrev pub ReadsHead : Result Head Fault → HeadFields → Outcome → HeadFields → Type 0

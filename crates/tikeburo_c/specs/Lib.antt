@@ -20,8 +20,10 @@ pub mod Numbers
 pub mod Outcomes
 pub mod Params
 pub mod Reading
+pub mod ReadingWidths
 pub mod Results
 pub mod Rows
+pub mod SameWidths
 pub mod Scrolling
 pub mod States
 pub mod Streams

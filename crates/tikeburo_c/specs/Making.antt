@@ -74,6 +74,10 @@ blank_client widths limits =
       stopped = None;
     }
 
+-- limits of so many cells and bytes, and of as many rows as are usual
+abbrev pub usual_rows : ℕ → ℕ → Limits
+usual_rows cells bytes = record { cells = cells; rows = 65536; bytes = bytes }
+
 -- the widths, where there are some, and an answer may have so many bytes, and not 0
 abbrev pub limited : ℕ → Option ChosenWidths → Option ChosenWidths
 limited bytes widths = if nat_lt 0 bytes then widths else None

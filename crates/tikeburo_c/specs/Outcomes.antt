@@ -8,7 +8,7 @@ use Rattle.termwiz_wire.specs.declared.fault.Fault.{Fault}
 use Rattle.termwiz_wire.specs.declared.fault.WireError.{WireError}
 use Rattle.termwiz_wire.specs.declared.fault.WireError.TheVariants as decoding
 use Rattle.tikeburo_c.specs.declared.failure.Failure.{Failure}
-use Rattle.tikeburo_c.specs.declared.failure.Failure.TheVariants.{Memory, Unreadable, Truncated, Region, Numbers, NoHandle, WrongKind, Range, Short}
+use Rattle.tikeburo_c.specs.declared.failure.Failure.TheVariants.{Memory, Unreadable, Truncated, Region, Numbers, NoHandle, WrongKind, Range, Short, OtherWidths}
 
 -- what a call came to
 abbrev pub Outcome : Type 0
@@ -26,6 +26,7 @@ status_of (Err NoHandle) = pos 6
 status_of (Err WrongKind) = pos 7
 status_of (Err Range) = pos 8
 status_of (Err Short) = pos 9
+status_of (Err OtherWidths) = pos 10
 
 -- the number is that of an outcome of which this holds
 abbrev pub Reports : ℤ → (Outcome → Type 0) → Type 0

@@ -1,6 +1,6 @@
 -- How wide texts are by each choice, the choice of each number, and that of a table.
 use Rattle.std.specs.Borrow.{Bor}
-use Rattle.std.specs.Prelude.{◌≡◌, ℕ, List, Option, Some, None, true, false, ◌==◌, if◌then◌else◌}
+use Rattle.std.specs.Prelude.{◌≡◌, ℕ, List, [], Option, Some, None, true, false, ◌==◌, if◌then◌else◌}
 use Rattle.termwiz_cell.specs.Width.{unicode_columns, variation}
 use Rattle.termwiz_cell.specs.declared.emoji.Presentation.{Presentation}
 use Rattle.termwiz_cell.specs.declared.emoji.Presentation.TheVariants.{Text}
@@ -34,6 +34,17 @@ widths_at n =
     if n == 0 then Some (record { choice = Unicode })
     else if n == 1 then Some (record { choice = OneColumn })
     else None
+
+-- the number of each choice, and the ranges of a table
+abbrev pub choice_number : Choice WidthTable → ℕ
+choice_number Unicode = 0
+choice_number OneColumn = 1
+choice_number (Table table) = 2
+
+abbrev pub ranges_of : Choice WidthTable → List WidthRange
+ranges_of (Table table) = table.ranges.now
+ranges_of Unicode = []
+ranges_of OneColumn = []
 
 -- the widths are by these ranges, or there are none, as the ranges are no table
 abbrev pub AreBy : Bor (List WidthRange) → Option ChosenWidths → Type 0

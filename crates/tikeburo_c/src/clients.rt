@@ -2,7 +2,7 @@
 ghost use Rattle.std.specs.Prelude.{◌≡◌, ◌<◌, Err, IfErr, IfOk};
 ghost use Rattle.tikeburo_c.specs.Handles.{kept_of};
 ghost use Rattle.tikeburo_c.specs.Making.{MakesClient, MakesClientBy, blank_client, limited};
-ghost use Rattle.tikeburo_c.specs.Making.{widths_within};
+ghost use Rattle.tikeburo_c.specs.Making.{usual_rows, widths_within};
 ghost use Rattle.tikeburo_c.specs.Outcomes.{Reports};
 ghost use Rattle.tikeburo_c.specs.Results.{OnClient, OnClientAnd, OrNoMemory};
 ghost use Rattle.tikeburo_c.specs.Streams.{Fails, FeedsBytes, FeedsIn, GivesAsk, GivesOne};
@@ -76,8 +76,19 @@ fn make_client(
     Ok(())
 }
 
+// So many cells and bytes, and as many rows as are usual.
+fn limits(cells: usize, bytes: usize) -> Limits
+    ensures { result ≡ usual_rows cells bytes }
+{
+    Limits {
+        cells,
+        bytes,
+        ..Limits::default()
+    }
+}
+
 /// Makes a client that shows nothing yet, measures by the chosen widths, and takes no answer of
-/// more cells or bytes: a limit of no bytes is out of its range.
+/// more cells or bytes, nor of more rows than are usual: a limit of no bytes is out of its range.
 #[unsafe(no_mangle)]
 pub extern "C" fn tk_client_new(
     alloc: Global,
@@ -87,10 +98,10 @@ pub extern "C" fn tk_client_new(
     bytes: usize,
 ) -> i32
     ensures { Reports result (λ outcome. MakesClient (widths_within bytes widths)
-        (record { cells = cells; bytes = bytes })
+        (usual_rows cells bytes)
         (kept_of handle.old) outcome (kept_of handle.new)) }
 {
-    let limits = Limits { cells, bytes };
+    let limits = limits(cells, bytes);
     let widths = ChosenWidths::at(widths);
     let outcome = make_client(alloc, handle, widths, limits);
     status(outcome)
@@ -107,10 +118,10 @@ pub extern "C" fn tk_client_new_by(
     bytes: usize,
 ) -> i32
     ensures { Reports result (λ outcome. MakesClientBy ranges.entry
-        (record { cells = cells; bytes = bytes })
+        (usual_rows cells bytes)
         (kept_of handle.old) outcome (kept_of handle.new)) }
 {
-    let limits = Limits { cells, bytes };
+    let limits = limits(cells, bytes);
     let widths = ChosenWidths::by(ranges);
     let outcome = make_client(alloc, handle, widths, limits);
     status(outcome)

@@ -2,7 +2,7 @@
 ghost use Rattle.std.specs.Prelude.{◌≡◌, IfOk, None, Some, map, option_map};
 ghost use Rattle.termwiz_screen.specs.{region_value};
 ghost use Rattle.termwiz_surface.specs.{change_value, region_at};
-ghost use Rattle.tikeburo_c.specs.Diffs.{GivesDiff, IsDiff, ReadsBoth};
+ghost use Rattle.tikeburo_c.specs.Diffs.{GivesDiff, GivesSameDiff, IsDiff, ReadsBoth};
 ghost use Rattle.tikeburo_c.specs.Getting.{ListPlace, list_place};
 ghost use Rattle.tikeburo_c.specs.Handles.{kept_of};
 ghost use Rattle.tikeburo_c.specs.Outcomes.{Reports};
@@ -13,6 +13,7 @@ use crate::getting::{ListCounts, give_all};
 use crate::handle::Handle;
 use crate::kept::Kept;
 use crate::lists::ChangeFields;
+use crate::same_widths::require_same;
 use crate::widths::ChosenWidths;
 use std::alloc::{AllocError, Global};
 use termwiz_screen::diff::region::Region;
@@ -59,6 +60,23 @@ fn give_diff(
     give_all(alloc, &changes, 0, list, texts, counts)
 }
 
+fn give_same_diff(
+    alloc: Global,
+    surface: &Surface<ChosenWidths>,
+    other: &Surface<ChosenWidths>,
+    region: Option<Region>,
+    list: &mut [ChangeFields],
+    texts: &mut [u8],
+    counts: &mut ListCounts,
+) -> Result<(), Failure>
+    ensures { GivesSameDiff (option_map region_value region) surface.now other.now
+        (list_place list.old texts.old counts.old) result
+        (list_place list.new texts.new counts.new) }
+{
+    require_same(&surface.widths(), &other.widths())?;
+    give_diff(alloc, surface, other, region, list, texts, counts)
+}
+
 fn give_diff_of(
     alloc: Global,
     kept: &Kept,
@@ -69,12 +87,12 @@ fn give_diff_of(
     counts: &mut ListCounts,
 ) -> Result<(), Failure>
     ensures { Reads {B = ListPlace}
-        (λ s. OrNoMemory (GivesDiff (option_map region_value region) s other.now))
+        (λ s. GivesSameDiff (option_map region_value region) s other.now)
         (Some kept.now) (list_place list.old texts.old counts.old)
         result (list_place list.new texts.new counts.new) }
 {
     let surface = kept.shown()?;
-    give_diff(alloc, surface, other, region, list, texts, counts)
+    give_same_diff(alloc, surface, other, region, list, texts, counts)
 }
 
 fn diff_from(
@@ -87,7 +105,7 @@ fn diff_from(
     counts: &mut ListCounts,
 ) -> Result<(), Failure>
     ensures read { Reads {B = ListPlace}
-        (λ s. OrNoMemory (GivesDiff (option_map region_value region) s other.now))
+        (λ s. GivesSameDiff (option_map region_value region) s other.now)
         (kept_of handle.old) (list_place list.old texts.old counts.old)
         result (list_place list.new texts.new counts.new) }
     ensures same { kept_of handle.new ≡ kept_of handle.old }
@@ -110,7 +128,7 @@ fn diff_kept(
     counts: &mut ListCounts,
 ) -> Result<(), Failure>
     ensures read { ReadsBoth {B = ListPlace}
-        (λ s t. OrNoMemory (GivesDiff (option_map region_value region) s t))
+        (GivesSameDiff (option_map region_value region))
         (kept_of handle.old) (Some other.now) (list_place list.old texts.old counts.old)
         result (list_place list.new texts.new counts.new) }
     ensures same { kept_of handle.new ≡ kept_of handle.old }
@@ -129,7 +147,7 @@ fn diff_both(
     counts: &mut ListCounts,
 ) -> Result<(), Failure>
     ensures read { ReadsBoth {B = ListPlace}
-        (λ s t. OrNoMemory (GivesDiff (option_map region_value region) s t))
+        (GivesSameDiff (option_map region_value region))
         (kept_of handle.old) (kept_of other.old) (list_place list.old texts.old counts.old)
         result (list_place list.new texts.new counts.new) }
     ensures same { kept_of handle.new ≡ kept_of handle.old }
@@ -154,7 +172,7 @@ pub extern "C" fn tk_diff_screens_distinct(
     counts: &mut ListCounts,
 ) -> i32
     ensures read { Reports result (λ outcome.
-        ReadsBoth {B = ListPlace} (λ s t. OrNoMemory (GivesDiff None s t))
+        ReadsBoth {B = ListPlace} (GivesSameDiff None)
         (kept_of handle.old) (kept_of other.old) (list_place list.old texts.old counts.old)
         outcome (list_place list.new texts.new counts.new)) }
     ensures same { kept_of handle.new ≡ kept_of handle.old }
@@ -181,8 +199,8 @@ pub extern "C" fn tk_diff_region_distinct(
     texts: &mut [u8],
     counts: &mut ListCounts,
 ) -> i32
-    ensures read { Reports result (λ outcome. ReadsBoth {B = ListPlace} (λ s t. OrNoMemory
-        (GivesDiff (Some (region_at column row width height other_column other_row)) s t))
+    ensures read { Reports result (λ outcome. ReadsBoth {B = ListPlace}
+        (GivesSameDiff (Some (region_at column row width height other_column other_row)))
         (kept_of handle.old) (kept_of other.old) (list_place list.old texts.old counts.old)
         outcome (list_place list.new texts.new counts.new)) }
     ensures same { kept_of handle.new ≡ kept_of handle.old }

@@ -1,6 +1,6 @@
 //! Surfaces drawn on others, and regions copied within one.
 ghost use Rattle.std.specs.Prelude.{◌≡◌, Some};
-ghost use Rattle.tikeburo_c.specs.Drawing.{Copies, Draws, DrawsRegion, DrawsSource};
+ghost use Rattle.tikeburo_c.specs.Drawing.{Copies, Draws, DrawsRegion, DrawsSame, DrawsSource};
 ghost use Rattle.tikeburo_c.specs.Handles.{kept_of};
 ghost use Rattle.tikeburo_c.specs.Outcomes.{Reports};
 ghost use Rattle.tikeburo_c.specs.Results.{OnSurface};
@@ -9,6 +9,7 @@ use crate::access::on_surface;
 use crate::failure::{Failure, status};
 use crate::handle::Handle;
 use crate::kept::Kept;
+use crate::same_widths::require_same;
 use crate::widths::ChosenWidths;
 use std::alloc::Global;
 use termwiz_share::Source;
@@ -26,6 +27,18 @@ fn draw_on<'t>(
     Ok(())
 }
 
+fn draw_same<'t>(
+    surface: &mut Source<ChosenWidths<'t>>,
+    source: &Surface<ChosenWidths<'t>>,
+    column: usize,
+    row: usize,
+) -> Result<(), Failure>
+    ensures { DrawsSame source.now column row surface.old result surface.new }
+{
+    require_same(&source.widths(), &surface.surface().widths())?;
+    draw_on(surface, source, column, row)
+}
+
 // No closure lends what is shown, since nothing would be known of its call then.
 fn draw_shown(
     alloc: Global,
@@ -34,14 +47,14 @@ fn draw_shown(
     column: usize,
     row: usize,
 ) -> Result<(), Failure>
-    ensures { OnSurface (Draws shown.now column row)
+    ensures { OnSurface (DrawsSame shown.now column row)
         (kept_of handle.old) result (kept_of handle.new) }
 {
     let Some(mut kept) = handle.take(alloc) else {
         return Err(Failure::NoHandle);
     };
     let outcome = match &mut *kept {
-        Kept::Surface(surface) => draw_on(surface, shown, column, row),
+        Kept::Surface(surface) => draw_same(surface, shown, column, row),
         Kept::Viewer(_) | Kept::Client(_) | Kept::Lines(_) => Err(Failure::WrongKind),
     };
     handle.put(alloc, kept);

@@ -22,6 +22,7 @@ pub(crate) enum Failure {
     WrongKind,
     Range,
     Short,
+    OtherWidths,
 }
 
 /// The number of an outcome, as the header names them.
@@ -39,6 +40,7 @@ pub(crate) fn status(outcome: Result<(), Failure>) -> i32
         Err(Failure::WrongKind) => 7,
         Err(Failure::Range) => 8,
         Err(Failure::Short) => 9,
+        Err(Failure::OtherWidths) => 10,
     }
 }
 

@@ -1,11 +1,11 @@
 //! Viewers: how they are made, and follow.
 ghost use Rattle.std.specs.Prelude.{◌≡◌, IfErr, IfOk, OnOk, Some};
 ghost use Rattle.termwiz_surface.specs.Following.{Follows, blank_viewer};
-ghost use Rattle.tikeburo_c.specs.Following.{FollowsOne, FollowsSource, MakesViewer};
+ghost use Rattle.tikeburo_c.specs.Following.{FollowsSame, FollowsSource, MakesViewer};
 ghost use Rattle.tikeburo_c.specs.Following.{blank_follower};
 ghost use Rattle.tikeburo_c.specs.Handles.{kept_of};
 ghost use Rattle.tikeburo_c.specs.Outcomes.{Reports};
-ghost use Rattle.tikeburo_c.specs.Results.{OnViewer, OrNoMemory};
+ghost use Rattle.tikeburo_c.specs.Results.{OnViewer};
 ghost use Rattle.tikeburo_c.specs.Widths.{columns_by};
 ghost use Rattle.tikeburo_c.specs.declared.failure.Failure.TheVariants.{Memory};
 ghost use Rattle.tikeburo_c.specs.declared.kept.Kept.TheVariants as kinds;
@@ -14,6 +14,7 @@ use crate::failure::{Failure, status};
 use crate::followers::Follower;
 use crate::handle::Handle;
 use crate::kept::Kept;
+use crate::same_widths::require_same;
 use crate::widths::ChosenWidths;
 use std::alloc::Global;
 use termwiz_surface::Surface;
@@ -70,20 +71,32 @@ pub extern "C" fn tk_viewer_new_distinct(
     status(outcome)
 }
 
+fn follow_same(
+    alloc: Global,
+    follower: &mut Follower,
+    shown: &Surface<ChosenWidths<'static>>,
+    number: usize,
+) -> Result<(), Failure>
+    ensures { FollowsSame number shown.now follower.old result follower.new }
+{
+    require_same(&shown.widths(), &follower.surface().widths())?;
+    follower.follow(alloc, shown, number)
+}
+
 fn follow_shown(
     alloc: Global,
     handle: &mut Handle,
     shown: &Surface<ChosenWidths<'static>>,
     number: usize,
 ) -> Result<(), Failure>
-    ensures { OnViewer (OrNoMemory (FollowsOne number shown.now))
+    ensures { OnViewer (FollowsSame number shown.now)
         (kept_of handle.old) result (kept_of handle.new) }
 {
     let Some(mut kept) = handle.take(alloc) else {
         return Err(Failure::NoHandle);
     };
     let outcome = match &mut *kept {
-        Kept::Viewer(follower) => follower.follow(alloc, shown, number),
+        Kept::Viewer(follower) => follow_same(alloc, follower, shown, number),
         Kept::Surface(_) | Kept::Client(_) | Kept::Lines(_) => Err(Failure::WrongKind),
     };
     handle.put(alloc, kept);

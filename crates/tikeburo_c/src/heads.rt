@@ -38,6 +38,7 @@ fn read_head(bytes: &[u8], head: &mut HeadFields) -> Result<(), Failure>
 {
     let limits = Limits {
         cells: usize::MAX,
+        rows: usize::MAX,
         bytes: usize::MAX,
     };
     match decode_head(limits, bytes) {

@@ -4,7 +4,7 @@ ghost use Rattle.tikeburo_c.specs.WidthRanges.{is_table};
 
 /// The characters from the first to the last, each of so many columns.
 #[repr(C)]
-#[derive(Clone, Copy)]
+#[derive(Clone, Copy, PartialEq, Eq)]
 pub struct WidthRange {
     pub first: u32,
     pub last: u32,

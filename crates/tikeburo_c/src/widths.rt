@@ -1,6 +1,7 @@
 //! How a surface measures texts.
 ghost use Rattle.std.specs.Prelude.{◌≡◌, IfSome, IsSome, IsTrue, nat_lt, ◌↔◌};
-ghost use Rattle.tikeburo_c.specs.Widths.{AreBy, choice_at, columns_by, presentation_by, widths_at};
+ghost use Rattle.tikeburo_c.specs.Widths.{AreBy, choice_at, choice_number, columns_by};
+ghost use Rattle.tikeburo_c.specs.Widths.{presentation_by, ranges_of, widths_at};
 
 use crate::measuring::is_table;
 use crate::tables::{WidthRange, WidthTable};
@@ -55,6 +56,27 @@ impl<'t> ChosenWidths<'t> {
             Some(ChosenWidths { choice })
         } else {
             None
+        }
+    }
+
+    /// The number of the choice, which is 2 of a table.
+    pub(crate) fn number(&self) -> u8
+        ensures { result ≡ choice_number self.now.choice }
+    {
+        match &self.choice {
+            Choice::Unicode => 0,
+            Choice::OneColumn => 1,
+            Choice::Table(_) => 2,
+        }
+    }
+
+    /// The ranges of a table, or none.
+    pub(crate) fn ranges(&self) -> &'t [WidthRange]
+        ensures { result.now ≡ ranges_of self.now.choice }
+    {
+        match &self.choice {
+            Choice::Unicode | Choice::OneColumn => &[],
+            Choice::Table(table) => table.ranges,
         }
     }
 }

@@ -10,3 +10,6 @@ mod SameLists
 mod Served
 mod Unlogged
 mod Taken
+mod Making
+mod Returned
+mod Following

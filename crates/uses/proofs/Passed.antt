@@ -4,16 +4,21 @@ use Rattle.std.specs.Prelude.{◌⊎◌}
 use Rattle.std.proofs.lemmas.Nat.{mul-le}
 use Rattle.termwiz_share.specs.Source.{IsResponse, SourceValue, sent_by}
 use Rattle.termwiz_wire.specs.Answers.{head_of}
+use Rattle.termwiz_wire.specs.Screens.{FitsLimits}
 use Rattle.termwiz_wire.specs.Sent.{IsSent, answer}
+use Rattle.termwiz_wire.specs.declared.fault.Limits.{Limits}
 use Rattle.termwiz_wire.specs.declared.decode.heads.Head.{Head}
 use Rattle.termwiz_wire.specs.declared.fault.Fault.{Fault}
 use Rattle.termwiz_wire.specs.declared.sent.Ask.{Ask}
 use Rattle.termwiz_wire.specs.declared.sent.SentAnswer.{SentAnswer}
 
-few : (w h : ℕ) → w < 2 ^ 32 → h < 2 ^ 32 → w * h ≤ 2 ^ 64 - 1
+abbrev any_size : Limits
+any_size = record { cells = 2 ^ 64 - 1; rows = 2 ^ 64 - 1; bytes = 2 ^ 64 - 1 }
+
+few : (w h : ℕ) → w < 2 ^ 32 → h < 2 ^ 32 → FitsLimits any_size w h
 few w h fits fits_height =
     let bound : w * h ≤ (2 ^ 32 - 1) * (2 ^ 32 - 1) = mul-le w h (2 ^ 32 - 1) (2 ^ 32 - 1) (omega (arith, fits)) (omega (arith, fits_height)) in
-    omega (arith, bound)
+    record { cells = omega (arith, bound); rows = omega (arith, fits_height) }
 
 abbrev found : Head → Result Head Fault
 found head = Ok head
@@ -22,7 +27,7 @@ found head = Ok head
 abbrev pub Leads : Head → Ask → Type 0
 Leads head ask = (head.base ≡ 0) ⊎ ((ask.source ≡ head.source) × (head.base ≡ ask.number))
 
-module _ {W : Type 0} (measure_of : W → List ℕ → ℕ) (s : SourceValue W) (bytes : List ℕ) (read : Result Head Fault) (lt : length bytes < 2 ^ 64) (again : (measure : List ℕ → ℕ) (sent : SentAnswer) (rest : List ℕ) → IsSent measure sent → sent.answer.width * sent.answer.height ≤ 2 ^ 64 - 1 → length (answer measure sent) ≤ 2 ^ 64 - 1 → bytes ≡ answer measure sent ++ rest → read ≡ Ok (head_of sent)) where
+module _ {W : Type 0} (measure_of : W → List ℕ → ℕ) (s : SourceValue W) (bytes : List ℕ) (read : Result Head Fault) (lt : length bytes < 2 ^ 64) (again : (measure : List ℕ → ℕ) (sent : SentAnswer) (rest : List ℕ) → IsSent measure sent → FitsLimits any_size sent.answer.width sent.answer.height → length (answer measure sent) ≤ 2 ^ 64 - 1 → bytes ≡ answer measure sent ++ rest → read ≡ Ok (head_of sent)) where
   head_given : (ask : Ask) (r : IsResponse measure_of s ask bytes) → read ≡ Ok (head_of (sent_by s.number r.given))
   head_given ask r =
       let len = ap length r.encoded in
@@ -44,6 +49,7 @@ module _ {W : Type 0} (measure_of : W → List ℕ → ℕ) (s : SourceValue W) 
     from = subst (λ (h : Head). Leads h other) (same_head ask r head is) leads;
     carries = r.carries;
     few = r.few;
+    borne = r.borne;
   }
 
   -- and what answers an ask leads on from what it names

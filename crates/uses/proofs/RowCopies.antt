@@ -1,7 +1,7 @@
 -- Copies of rows, of which one is taken again.
-use Rattle.std.proofs.Common.{◌≡◌, ℕ, ◌<◌, List, [], length, sym, ◌∙◌, ap, arith}
+use Rattle.std.proofs.Common.{◌≡◌, ℕ, ◌<◌, List, [], get_or, length, sym, ◌∙◌, ap, arith}
 use Rattle.std.specs.Prelude.{slice_set, Result, Ok, Err}
-use Rattle.std.proofs.lemmas.List.{length-map, map-set, get_or-set_same, get_or-set_other}
+use Rattle.std.proofs.lemmas.List.{length-map, map-set, get_or_read, get_or-set_same, get_or-set_other}
 use Rattle.termwiz_cell.specs.ChangeValue.{ChangeValue}
 use Rattle.termwiz_surface.specs.{Adds, CellValue, LineValue, NumbersRows, SurfaceValue, cells_of, next_number, row_at}
 use Rattle.termwiz_surface.specs.declared.surface.SurfaceError.{SurfaceError}
@@ -18,6 +18,14 @@ pub copied-there : (lines : List LineValue) (k j : ℕ) (line : LineValue) → (
 copied-there lines k j line other =
     ap (λ (rows : List (List CellValue)). row_at rows j) (map-set (λ (l : LineValue). l.cells) lines k line)
     ∙ get_or-set_other (cells_of lines) k j line.cells [] other
+
+-- a copy that is left alone is the line that it was
+pub left-here : (lines : List LineValue) (k j : ℕ) (was line d : LineValue) → k < length lines → was ≡ get_or lines k was → line ≡ was → j ≡ k → get_or (slice_set lines k line) j d ≡ get_or lines j d
+left-here lines k j was line d inside read same here =
+    ap (λ (i : ℕ). get_or (slice_set lines k line) i d) here
+    ∙ get_or-set_same lines k line d inside ∙ same
+    ∙ get_or_read lines k was inside read d
+    ∙ ap (λ (i : ℕ). get_or lines i d) (sym here)
 
 module _ {W : Type 0} where
   -- adding changes leaves the height, errors included

@@ -1,7 +1,8 @@
 //! Whether two surfaces show the same, and the damage between them: what has to be painted anew on
 //! a canvas that is painted cell by cell.
 ghost use Rattle.std.specs.Prelude.{◌≡◌, ◌↔◌, [], IfOk, IsTrue, map};
-ghost use Rattle.uses.specs.{MeasureAlike, change_value, measure, print_all, printed, screen_of};
+ghost use Rattle.uses.specs.{MeasureAlike, PrintsRegion, change_value, measure, print_all};
+ghost use Rattle.uses.specs.{printed, screen_of, whole};
 
 use std::alloc::AllocError;
 use termwiz_surface::laws::need_laws;
@@ -34,6 +35,10 @@ pub fn damage_between<W: Widths>(
         let shown = screen_of last.now in
         print_all shown.rows (printed (measure W.width_of last.now.widths) shown
         (map change_value changes.items)) ≡ (screen_of next.now).rows) }
+    // They print exactly the cells that differ, by at most three changes for each.
+    ensures diff { IfOk result (λ changes. PrintsRegion (measure W.width_of)
+        last.now next.now (whole last.now.width last.now.height)
+        (map change_value changes.items)) }
     ensures nothing { (screen_of last.now).rows ≡ (screen_of next.now).rows →
         IfOk result (λ changes. printed (measure W.width_of last.now.widths)
         (screen_of last.now) (map change_value changes.items) ≡ []) }

@@ -1,7 +1,8 @@
 //! A follower of one's own, which is sent what changed since it asked last.
-ghost use Rattle.std.specs.Prelude.{◌≡◌, ◌∷◌, [], IfOk, OnErr, OnOk};
-ghost use Rattle.uses.specs.{Follows, ViewerValue, change_value, measure, next_number};
-ghost use Rattle.uses.specs.{screen_after, screen_of};
+ghost use Rattle.std.specs.Prelude.{◌≡◌, ◌∷◌, [], Err, IfOk, OnErr, OnOk, false};
+ghost use Rattle.uses.specs.{AddsAll, CatchesUp, Follows, InTurn, ScrollRegion, ViewerValue};
+ghost use Rattle.uses.specs.{blank_surface, change_value, measure, next_number, screen_after};
+ghost use Rattle.uses.specs.{screen_of};
 
 use std::alloc::{AllocError, Global};
 use std::marker::Model;
@@ -29,6 +30,10 @@ impl<W: Widths> Follower<W> {
     /// `widths`: give it what the surface measures by.
     pub fn new(alloc: Global, surface: &Surface<W>, widths: W) -> Result<Follower<W>, AllocError>
         requires { widths ≡ surface.now.widths }
+        ensures blank { IfOk result (λ follower. follower ≡ record {
+          surface = blank_surface widths surface.now.width surface.now.height false;
+          last = 0;
+        }) }
         ensures width { IfOk result (λ follower. follower.surface.width ≡ surface.now.width) }
         ensures height { IfOk result (λ follower. follower.surface.height ≡ surface.now.height) }
         ensures follows { IfOk result (λ follower.
@@ -52,14 +57,17 @@ impl<W: Widths> Follower<W> {
 
     /// Catches up with a surface of the follower's size: asks for the changes since the number that
     /// it was last given, makes them, and takes the new number.
-    /// After an error it may show anything, and has no number: so the next answer brings the whole
-    /// screen.
+    /// After an error it shows what it showed, or what that error of `add_changes` leaves, and has
+    /// no number: so the next answer brings the whole screen. It never fails with `ScrollRegion`.
     pub fn catch_up(&mut self, surface: &Surface<W>) -> Result<(), SurfaceError>
         requires same_width { self.old.surface.width ≡ surface.now.width }
         requires same_height { self.old.surface.height ≡ surface.now.height }
         requires follows { Follows (measure W.width_of) self.old surface.now }
         ensures shown { OnOk result (screen_of self.new.surface ≡ screen_of surface.now) }
         ensures numbered { OnOk result (self.new.last ≡ next_number surface.now.log) }
+        // It makes what it lacks, or a repaint where the surface doesn't know its number.
+        ensures adds { CatchesUp (measure W.width_of) surface.now self.old result self.new }
+        ensures no_scroll { result ≡ Err ScrollRegion → ⊥ }
         // It can catch up again, after an error too.
         ensures follows { Follows (measure W.width_of) self.new surface.now }
         ensures failed { OnErr result (self.new.last ≡ 0) }
@@ -83,7 +91,8 @@ impl<W: Widths> Follower<W> {
 }
 
 /// Makes a change on a surface, and shows it on the follower.
-/// After an error the follower may lack it, and can catch up later.
+/// A change that is refused leaves what `add_change` says, and the follower as it was. After another
+/// error the change is made, and the follower may lack it, and can catch up later.
 pub fn make_and_show<W: Widths>(
     surface: &mut Surface<W>,
     follower: &mut Follower<W>,
@@ -94,6 +103,10 @@ pub fn make_and_show<W: Widths>(
     requires follows { Follows (measure W.width_of) follower.old surface.old }
     ensures made { OnOk result (screen_of surface.new
         ≡ screen_after (measure W.width_of) surface.old (change_value change ∷ [])) }
+    ensures either { InTurn
+        (λ r. AddsAll (measure W.width_of surface.old.widths)
+        surface.old (change_value change ∷ []) r surface.new) (follower.new ≡ follower.old)
+        (λ r. CatchesUp (measure W.width_of) surface.new follower.old r follower.new) result }
     ensures shown { OnOk result (screen_of follower.new.surface ≡ screen_of surface.new) }
     ensures follows { Follows (measure W.width_of) follower.new surface.new }
     ensures width { follower.new.surface.width ≡ surface.new.width }

@@ -1,7 +1,8 @@
 //! The last row of a surface: cleared, or drawn as a status line.
 ghost use Rattle.std.specs.Prelude.{◌≡◌, ◌+◌, ◌-◌, ◌<◌, IfOk, OnOk, map, ℕ};
-ghost use Rattle.uses.specs.{appended, blank_in, change_value, last_row_cleared, measure, row_at};
-ghost use Rattle.uses.specs.{next_number, screen_after, screen_of, status_line, stored};
+ghost use Rattle.uses.specs.{AddsList, appended, blank_in, change_value, last_row_cleared};
+ghost use Rattle.uses.specs.{measure, next_number, row_at, screen_after, screen_of, status_line};
+ghost use Rattle.uses.specs.{stored};
 
 use std::alloc::{AllocError, Global};
 use termwiz_surface::laws::{row_laws, stored_row_laws};
@@ -10,12 +11,14 @@ use termwiz_surface::{
 };
 
 /// Clears the last row with a background. The rows above stay.
-/// At an error the surface keeps its size.
+/// At an error the surface is unchanged, or as after that error of `add_changes`.
 pub fn clear_last_row<W: Widths>(
     alloc: Global,
     surface: &mut Surface<W>,
     background: ColorAttribute,
 ) -> Result<(), SurfaceError>
+    ensures adds { AddsList (measure W.width_of surface.old.widths)
+        surface.old (last_row_cleared background) result surface.new }
     ensures above { OnOk result ((j : ℕ) → j < surface.old.height - 1 →
         row_at (screen_of surface.new).rows j ≡ row_at (screen_of surface.old).rows j) }
     ensures cleared { OnOk result ((k : ℕ) → k < surface.old.width →
@@ -48,7 +51,7 @@ fn clear_changes(alloc: Global, background: ColorAttribute) -> Result<Vec<Change
 }
 
 /// Clears the last row with a background, and prints a text there with a pen.
-/// At an error the row may hold anything, and the surface keeps its size.
+/// At an error the surface is unchanged, or as after that error of `add_changes`.
 pub fn draw_status<W: Widths>(
     alloc: Global,
     surface: &mut Surface<W>,
@@ -56,6 +59,8 @@ pub fn draw_status<W: Widths>(
     pen: CellAttributes,
     text: &str,
 ) -> Result<(), SurfaceError>
+    ensures adds { AddsList (measure W.width_of surface.old.widths)
+        surface.old (status_line background pen text.now) result surface.new }
     ensures ok { OnOk result (screen_of surface.new
         ≡ screen_after (measure W.width_of) surface.old (status_line background pen text.now)) }
     ensures log { OnOk result (

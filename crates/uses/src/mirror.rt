@@ -1,6 +1,7 @@
 //! A viewer of one's own, which mirrors a surface by repaints.
-ghost use Rattle.std.specs.Prelude.{◌≡◌, IfOk, OnOk};
-ghost use Rattle.uses.specs.{SurfaceValue, screen_of};
+ghost use Rattle.std.specs.Prelude.{◌≡◌, IfOk, OnOk, false};
+ghost use Rattle.uses.specs.{AddsList, SurfaceValue, blank_surface, measure, own_repaint};
+ghost use Rattle.uses.specs.{screen_of};
 
 use std::alloc::{AllocError, Global};
 use std::marker::Model;
@@ -23,6 +24,8 @@ impl<W: Widths> Mirror<W> {
     /// A blank mirror of a surface's size, which measures texts by `widths`: give it what the
     /// surface measures by.
     pub fn new(alloc: Global, surface: &Surface<W>, widths: W) -> Result<Mirror<W>, AllocError>
+        ensures blank { IfOk result (λ mirror.
+            mirror ≡ blank_surface widths surface.now.width surface.now.height false) }
         ensures width { IfOk result (λ mirror. mirror.width ≡ surface.now.width) }
         ensures height { IfOk result (λ mirror. mirror.height ≡ surface.now.height) }
         ensures widths { IfOk result (λ mirror. mirror.widths ≡ widths) }
@@ -41,12 +44,15 @@ impl<W: Widths> Mirror<W> {
 
     /// Catches up with a surface of the mirror's size that measures texts alike. Whatever the
     /// mirror showed, it has the surface's rows, cursor, visibility and pen then.
-    /// At an error it may show anything, and still has its size: it can catch up later.
+    /// It makes the surface's repaint. At an error it is unchanged, or as after that error of
+    /// `add_changes`, and still has its size: it can catch up later.
     pub fn catch_up(&mut self, surface: &Surface<W>) -> Result<(), SurfaceError>
         requires same_width { self.old.width ≡ surface.now.width }
         requires same_height { self.old.height ≡ surface.now.height }
         requires same_widths { self.old.widths ≡ surface.now.widths }
         ensures ok { OnOk result (screen_of self.new ≡ screen_of surface.now) }
+        ensures adds { AddsList (measure W.width_of self.old.widths)
+            self.old (own_repaint surface.now) result self.new }
         ensures width { self.new.width ≡ self.old.width }
         ensures height { self.new.height ≡ self.old.height }
         ensures widths { self.new.widths ≡ self.old.widths }

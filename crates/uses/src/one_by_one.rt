@@ -1,11 +1,13 @@
 //! Changes that are made one at a time, as they come.
 ghost use Rattle.std.specs.Prelude.{◌≡◌, OnOk, map};
-ghost use Rattle.uses.specs.{change_value, measure, screen_after, screen_of};
+ghost use Rattle.uses.specs.{AddsEach, change_value, measure, screen_after, screen_of};
 
+use termwiz_surface::laws::full_repaint_laws;
 use termwiz_surface::{Change, Surface, SurfaceError, Widths};
 
 /// Makes the changes, each by itself. The screen is the same as if they were one list.
-/// At an error some first ones were made, and the surface keeps its size.
+/// At an error those before a change are made, and that one is refused for this reason. The surface
+/// keeps its size.
 pub fn make_one_by_one<W: Widths>(
     surface: &mut Surface<W>,
     changes: Vec<Change>,
@@ -14,7 +16,12 @@ pub fn make_one_by_one<W: Widths>(
         ≡ screen_after (measure W.width_of) surface.old (map change_value changes.items)) }
     ensures width { surface.new.width ≡ surface.old.width }
     ensures height { surface.new.height ≡ surface.old.height }
+    // All are made and logged, or those before one that is refused.
+    ensures each { AddsEach (measure W.width_of)
+        surface.old (map change_value changes.items) result surface.new }
 {
+    // Changes make a full screen of a full screen.
+    full_repaint_laws();
     for change in changes {
         surface.add_change(change)?;
     }

@@ -1,7 +1,7 @@
 //! A server between a source and its clients, which passes on what another client was answered.
 ghost use Rattle.std.specs.Prelude.{◌≡◌, ◌↔◌, ◌⊎◌, IsTrue, Ok, false, true};
 ghost use Rattle.termwiz_share.specs.{Shows, SourceValue};
-ghost use Rattle.uses.specs.{IsReady, IsResponse, Serves, ask_of, measure};
+ghost use Rattle.uses.specs.{IsReady, IsResponse, PassesOn, Serves, ask_of, measure};
 ghost use Rattle.termwiz_wire.specs.declared.sent.Ask.{Ask};
 
 use termwiz_share::{Client, ClientError};
@@ -11,8 +11,11 @@ use termwiz_wire::{Ask, Head, Limits, decode_head};
 /// Feeds a client the response to another one's ask, if it answers what this client asks too, and
 /// returns whether it does: the client shows what the source shows then.
 ///
-/// The server decodes nothing of the response but its head.
+/// The server decodes nothing of the response but its head. It fails only as `Client::feed` does on
+/// this response, and what each error leaves is said there.
 pub fn pass_on<W: Widths>(client: &mut Client<W>, response: &[u8]) -> Result<bool, ClientError>
+    // Whatever the bytes are.
+    ensures fed { PassesOn (measure W.width_of) client.old response.now result client.new }
     // Whoever the source has answered.
     ensures shows { (source : SourceValue W) (ask : Ask) →
         Serves (measure W.width_of) source client.old → IsReady client.old →
@@ -47,6 +50,7 @@ pub fn answers_client<W: Widths>(client: &Client<W>, response: &[u8]) -> bool
 {
     let limits = Limits {
         cells: usize::MAX,
+        rows: usize::MAX,
         bytes: usize::MAX,
     };
     match decode_head(limits, response) {

@@ -2,7 +2,7 @@
 ghost use Rattle.std.specs.Prelude.{◌≡◌, ◌≤◌, ◌*◌, ◌↔◌, IfOk, IsTrue, List, OnOk, length, map};
 ghost use Rattle.uses.specs.{AreRows, CellValue, IsDiff, MeasureAlike, Print, PrintsWithin, need};
 ghost use Rattle.uses.specs.{change_value, measure, print_all, printed, screen_after, screen_of};
-ghost use Rattle.uses.specs.{whole};
+ghost use Rattle.uses.specs.{AddsAll, PrintsRegion, whole};
 
 use std::alloc::AllocError;
 use termwiz_surface::laws::{diff_laws, equality_laws, fewest_prints};
@@ -21,6 +21,10 @@ pub fn patch_to<W: Widths>(
     ensures leads { IfOk result (λ patch.
         (screen_after (measure W.width_of) surface.now (map change_value patch.items)).rows
         ≡ (screen_of target.now).rows) }
+    // It prints exactly the cells that differ, by at most three changes for each.
+    ensures diff { IfOk result (λ patch. PrintsRegion (measure W.width_of)
+        surface.now target.now (whole surface.now.width surface.now.height)
+        (map change_value patch.items)) }
     ensures few { IfOk result (λ patch. (ps : List Print) →
         let own = (screen_of surface.now).rows in
         PrintsWithin surface.now.width surface.now.height ps →
@@ -36,11 +40,13 @@ pub fn patch_to<W: Widths>(
 }
 
 /// Applies a patch: the surface has the screen where it leads. A diff of the surface and some rows
-/// of its size leads to these rows.
+/// of its size leads to these rows. A patch that is refused leaves what `add_changes` says.
 pub fn apply_patch<W: Widths>(
     surface: &mut Surface<W>,
     patch: Vec<Change>,
 ) -> Result<(), SurfaceError>
+    ensures adds { AddsAll (measure W.width_of surface.old.widths)
+        surface.old (map change_value patch.items) result surface.new }
     ensures made { OnOk result (screen_of surface.new
         ≡ screen_after (measure W.width_of) surface.old (map change_value patch.items)) }
     ensures shows { let f = measure W.width_of surface.old.widths in

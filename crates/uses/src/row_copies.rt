@@ -1,7 +1,9 @@
 //! Copies of a surface's rows, as a renderer has them that paints row by row: just the rows that
 //! may have changed are copied again.
-ghost use Rattle.std.specs.Prelude.{◌≡◌, ◌<◌, ◌≤◌, IfOk, OnErr, OnOk, length, map};
-ghost use Rattle.uses.specs.{AreCopiesAt, cells_of, next_number, number_at, row_at};
+ghost use Rattle.std.specs.Prelude.{◌≡◌, ◌<◌, ◌≤◌, IfOk, OnErr, OnOk, length, map, ℕ};
+ghost use Rattle.uses.specs.{AddsAll, AreCopiesAt, CopiesRows, InTurn, KeepsOthers, MayDiffer};
+ghost use Rattle.uses.specs.{cells_of, change_value, measure, next_number, number_at, row_at};
+ghost use Rattle.uses.specs.{screen_after, screen_of};
 
 use std::alloc::{AllocError, Global};
 use termwiz_surface::{Change, Line, SequenceNo, Surface, SurfaceError, Widths};
@@ -18,7 +20,8 @@ pub fn copy_rows<W: Widths>(alloc: Global, surface: &Surface<W>) -> Result<Vec<L
     Ok(copies)
 }
 
-/// Copies a row again if it may have changed since the surface had the number `since`.
+/// Copies a row again if it may have changed since the surface had the number `since`, and leaves
+/// its copy alone if it can't have.
 fn refresh_row<W: Widths>(
     surface: &Surface<W>,
     row: usize,
@@ -30,7 +33,9 @@ fn refresh_row<W: Widths>(
     requires known { 0 < since → number_at surface.now row ≤ since →
         copy.old.cells ≡ row_at surface.now.lines row }
     ensures copied { OnOk result (copy.new.cells ≡ row_at surface.now.lines row) }
+    ensures left { 0 < since → number_at surface.now row ≤ since → copy.new ≡ copy.old }
     ensures kept { OnErr result (copy.new ≡ copy.old) }
+    ensures needed { OnErr result (MayDiffer since surface.now row) }
 {
     if !surface.row_changed_since(row, since) {
         return Ok(());
@@ -43,7 +48,7 @@ fn refresh_row<W: Widths>(
 }
 
 /// Copies the rows again that may have changed since the surface had the number `since`, when the
-/// copies were taken. After an error some of them may be copied.
+/// copies were taken. The other copies are left alone. After an error some rows may be copied.
 pub fn refresh_rows<W: Widths>(
     surface: &Surface<W>,
     since: SequenceNo,
@@ -51,8 +56,12 @@ pub fn refresh_rows<W: Widths>(
 ) -> Result<(), AllocError>
     requires { AreCopiesAt since surface.now (cells_of copies.old) }
     ensures copied { OnOk result (cells_of copies.new ≡ surface.now.lines) }
+    ensures left { KeepsOthers since surface.now copies.old copies.new }
     // The next call can rely on it, after an error too.
     ensures kept { AreCopiesAt since surface.now (cells_of copies.new) }
+    // Where no row may have changed, it doesn't fail.
+    ensures needed { OnErr result ((row : ℕ) × (row < surface.now.height)
+        × MayDiffer since surface.now row) }
 {
     let (_, height) = surface.dimensions();
     for row in 0..height {
@@ -61,15 +70,27 @@ pub fn refresh_rows<W: Widths>(
     Ok(())
 }
 
-/// Makes changes on a surface, and copies the rows that they changed. Where memory is refused or
-/// numbers are used up, `refresh_rows` goes on with the number that the surface had before.
+/// Makes changes on a surface, and copies the rows that they changed.
+///
+/// Where a change is refused the surface stands as `add_changes` says, and the copies are as they
+/// were. Where memory is refused for a copy the changes are made, and some rows may be copied. After
+/// either, `refresh_rows` goes on with the number that the surface had before.
 pub fn show<W: Widths>(
     surface: &mut Surface<W>,
     changes: Vec<Change>,
     copies: &mut [Line],
 ) -> Result<(), SurfaceError>
     requires { cells_of copies.old ≡ surface.old.lines }
+    // The changes are made, and then the rows are copied.
+    ensures shows { OnOk result (screen_of surface.new
+        ≡ screen_after (measure W.width_of) surface.old (map change_value changes.items)) }
+    ensures either { InTurn (λ r. AddsAll (measure W.width_of surface.old.widths)
+        surface.old (map change_value changes.items) r surface.new)
+        (copies.new ≡ copies.old)
+        (CopiesRows (next_number surface.old.log) surface.new) result }
     ensures copied { OnOk result (cells_of copies.new ≡ surface.new.lines) }
+    // A copy of a row that they can't have changed is left alone.
+    ensures left { KeepsOthers (next_number surface.old.log) surface.new copies.old copies.new }
     ensures kept { AreCopiesAt (next_number surface.old.log) surface.new (cells_of copies.new) }
 {
     let _form = surface.dimensions();

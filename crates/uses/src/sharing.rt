@@ -1,9 +1,9 @@
 //! Viewers that are served by answers: they join, reconnect, and let a surface forget what they
 //! have. `serving.rt` has both ends of a stream of answers.
 ghost use Rattle.std.specs.Prelude.{◌≡◌, ◌<◌, ◌≤◌, [], IfOk, OnOk, false, true, ℕ};
-ghost use Rattle.uses.specs.{All, Any, Follows, FullScreen, IsPastOf, Screen, blank_viewer};
-ghost use Rattle.uses.specs.{IsServed, KeepsNames, ShowsNamed, ViewerValue, flushed, full_of};
-ghost use Rattle.uses.specs.{full_screens, is_known, measure, screen_of, screens};
+ghost use Rattle.uses.specs.{All, Any, Follows, FollowsTo, FullScreen, IsPastOf, Screen};
+ghost use Rattle.uses.specs.{IsServed, KeepsNames, ShowsNamed, ViewerValue, blank_viewer, flushed};
+ghost use Rattle.uses.specs.{full_of, full_screens, is_known, measure, screen_of, screens};
 
 use std::alloc::{AllocError, Global};
 use termwiz_surface::laws::{full_history_laws, history_laws};
@@ -62,6 +62,8 @@ pub fn reconnect<W: Widths>(
     requires is_plain { surface.now.full ≡ false }
     requires served { IsServed screens (measure W.width_of) viewer.old surface.now }
     ensures shows { OnOk result (screen_of viewer.new.surface ≡ screen_of surface.now) }
+    // What it is given, the number that is returned, and which error comes when.
+    ensures steps { FollowsTo (measure W.width_of) surface.now viewer.old result viewer.new }
     ensures follows { Follows (measure W.width_of) viewer.new surface.now }
     ensures names { (past : ℕ → Screen) →
         IsPastOf screens (measure W.width_of) past surface.now →
@@ -83,6 +85,7 @@ pub fn reconnect_fully<W: Widths>(
     requires served { IsServed screens (measure W.width_of) viewer.old surface.now }
     requires served_fully { IsServed full_screens (measure W.width_of) viewer.old surface.now }
     ensures shows { OnOk result (full_of viewer.new.surface ≡ full_of surface.now) }
+    ensures steps { FollowsTo (measure W.width_of) surface.now viewer.old result viewer.new }
     ensures follows { Follows (measure W.width_of) viewer.new surface.now }
     ensures names { (past : ℕ → FullScreen) →
         IsPastOf full_screens (measure W.width_of) past surface.now →

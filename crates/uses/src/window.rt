@@ -1,12 +1,14 @@
 //! A window of widgets, and a viewer that shows it.
 ghost use Rattle.std.specs.Prelude.{◌≡◌, Err, OnOk};
-ghost use Rattle.uses.specs.{Follows, HasDrawn, ScrollRegion, measure, screen_of};
+ghost use Rattle.uses.specs.{Draws, FollowsOnce, Follows, HasDrawn, InTurn, ScrollRegion, measure};
+ghost use Rattle.uses.specs.{screen_of};
 
 use termwiz_surface::{Surface, SurfaceError, Viewer, Widths};
 
 /// Draws a widget into the window, from this column and row on, and shows the window on its viewer.
-/// After an error, which is `Numbers` or `Memory`, the window may have the widget or not, and the
-/// next call shows it as it is.
+/// After an error, which is `Numbers` or `Memory`, the window stands as `draw_from_screen` says and
+/// the viewer is as it was, or the window has the widget and the viewer may show anything. The next
+/// call shows the window as it is.
 pub fn show_widget<W: Widths>(
     window: &mut Surface<W>,
     widget: &Surface<W>,
@@ -22,6 +24,11 @@ pub fn show_widget<W: Widths>(
     // edge, and elsewhere what it showed.
     ensures widget { OnOk result (
         HasDrawn (measure W.width_of) window.old widget.now x y (screen_of viewer.new.surface)) }
+    // Where the widget isn't drawn, the viewer is as it was.
+    ensures either { InTurn
+        (λ r. Draws (measure W.width_of) window.old widget.now x y r window.new)
+        (viewer.new ≡ viewer.old)
+        (λ r. FollowsOnce (measure W.width_of) window.new viewer.old r viewer.new) result }
     ensures no_scroll { result ≡ Err ScrollRegion → ⊥ }
     // The next call can rely on it again, after an error too.
     ensures follows { Follows (measure W.width_of) viewer.new window.new }

@@ -1,8 +1,8 @@
-use Rattle.std.proofs.Common.{◌≡◌, ◌<◌, inl, inr, [], length, slice_set, sym, ◌∙◌, ap, arith}
+use Rattle.std.proofs.Common.{◌≡◌, ◌<◌, ◌≤◌, inl, inr, [], length, slice_set, sym, subst, ◌∙◌, ap, arith}
 use Rattle.std.proofs.lemmas.Bool.{cases_eq}
-use Rattle.std.proofs.lemmas.List.{ext_get_or, length-map, length-set}
-use Rattle.termwiz_surface.specs.{LineValue, cells_of, row_at}
-use Rattle.uses.proofs.RowCopies.{copied-here, copied-there}
+use Rattle.std.proofs.lemmas.List.{ext_get_or, get_or-set_other, length-map, length-set}
+use Rattle.termwiz_surface.specs.{LineValue, cells_of, number_at, row_at}
+use Rattle.uses.proofs.RowCopies.{copied-here, copied-there, left-here}
 use Rattle.uses.proofs.row_copies.refresh_rows.Goals as goal
 
 pub loop-row-preserved : goal.loop-row-preserved
@@ -20,6 +20,10 @@ loop-row-preserved g c =
         | inr other ↦ copied-there copies row j copy other ∙ before.done j (omega arith)
       ];
       left = λ j l. copied-there copies row j copy (λ e. omega arith) ∙ before.left j (omega arith);
+      kept = λ j d some le. elim (cases_eq j row) [
+        | inl e ↦ left-here copies row j c.index-copies-row.result copy d inside c.index-copies-row.is (c.refresh_row.ensures.left some (subst (λ i. number_at c.args.surface.now i ≤ c.args.since) e le) ∙ sym c.index-copies-row.is) e ∙ before.kept j d some le
+        | inr other ↦ get_or-set_other copies row j copy d other ∙ before.kept j d some le
+      ];
     }
 
 pub returns-clause-copied : goal.returns-clause-copied

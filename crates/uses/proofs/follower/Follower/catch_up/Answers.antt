@@ -1,5 +1,14 @@
-use Rattle.std.proofs.Common.{◌≡◌, true, refl, sym, ap, ◌∙◌, subst}
-use Rattle.termwiz_surface.specs.{HasFullSize, HasSize, IsFullStream, IsStream, SurfaceValue, ViewerValue, full_of, full_replay, full_screen, kept_of, measure, replay, screen_of, stream_of}
+use Rattle.std.proofs.Common.{◌≡◌, ◌+◌, ◌-◌, List, Ok, Err, Result, inl, map, true, refl, sym, ap, ◌∙◌, subst}
+use Rattle.std.specs.Prelude.{vec_len}
+use Rattle.std.proofs.lemmas.Result.{err_from_is_err_and}
+use Rattle.termwiz_surface.specs.{ChangeValue, change_value, knows, next_number, regions_fit, HasFullSize, HasSize, IsFullStream, IsStream, SurfaceValue, ViewerValue, full_of, full_replay, full_screen, kept_of, measure, replay, screen_of, stream_of}
+use Rattle.termwiz_surface.specs.declared.surface.SurfaceError.{SurfaceError}
+use Rattle.termwiz_surface.specs.declared.surface.SurfaceError.TheVariants.{ScrollRegion}
+use Rattle.uses.specs.Following.{answer_for}
+use Rattle.uses.specs.Making.{AddsAll, AddsList}
+use Rattle.uses.proofs.Following.{answer_is, never_scrolls}
+use Rattle.uses.proofs.Making.{adds_made, adds_refused}
+use Rattle.uses.proofs.Returned.{returned}
 use Rattle.uses.proofs.Followed.{unnumbered}
 use Rattle.uses.proofs.follower.Follower.catch_up.Goals as goal
 
@@ -54,3 +63,46 @@ returns-clause-follows g c =
       leads = c.following_laws.ensures.same (f s.widths) (screen_of c.add_changes.new.self) (screen_of s) c.in_ok-number.number s.log (returns-clause-shown g c) c.in_ok-number.ensures.number;
       full = λ full. c.full_following_laws.ensures.same (f s.widths) (full_of c.add_changes.new.self) (full_of s) c.in_ok-number.number s.log (full_shown full) c.in_ok-number.ensures.number;
     }
+
+pub returns-clause-adds : goal.returns-clause-adds
+returns-clause-adds g c =
+    let f = measure g.W.Widths.width_of in
+    let s = c.args.surface.now in
+    let shown = c.self.inside.shown in
+    let new = c.add_changes.new.self in
+    let list : map change_value c.in_ok-copied.field-0.items ≡ answer_for s c.self.inside.last =
+    c.in_ok-copied.ensures ∙ answer_is s c.self.inside.last (knows s c.self.inside.last) (stream_of c.in_ok-number.changes) refl (λ is. (c.in_ok-number.ensures.due is).same) c.in_ok-number.ensures.entries in
+    inl (subst (λ (v : ViewerValue _). AddsAll (f v.surface.widths) v.surface (answer_for s v.last) (Ok tt) new) c.self.view_is
+    (subst (λ (cs : List ChangeValue). AddsAll (f shown.widths) shown cs (Ok tt) new) list
+    (adds_made (f shown.widths) shown new (map change_value c.in_ok-copied.field-0.items) _ _ c.in_ok-add_changes.ensures.adds)))
+
+pub returns-in_err-add_changes-clause-adds : goal.returns-in_err-add_changes-clause-adds
+returns-in_err-add_changes-clause-adds g c =
+    let f = measure g.W.Widths.width_of in
+    let s = c.args.surface.now in
+    let v = c.args.self.now in
+    let shown = c.self.inside.shown in
+    let new = c.add_changes.new.self in
+    let e = c.in_err-add_changes.field-0.0 in
+    let n = next_number shown.log - 1 + vec_len c.in_ok-copied.field-0 in
+    let list : map change_value c.in_ok-copied.field-0.items ≡ answer_for s c.self.inside.last =
+    c.in_ok-copied.ensures ∙ answer_is s c.self.inside.last (knows s c.self.inside.last) (stream_of c.in_ok-number.changes) refl (λ is. (c.in_ok-number.ensures.due is).same) c.in_ok-number.ensures.entries in
+    returned (λ (r : Result _ _). AddsList (f v.surface.widths) v.surface (answer_for s v.last) r new) e c.from_residual-in_err-add_changes.result c.from_residual-in_err-add_changes.ensures.1
+    (inl (subst (λ (v : ViewerValue _). AddsAll (f v.surface.widths) v.surface (answer_for s v.last) (Err e) new) c.self.view_is
+    (subst (λ (cs : List ChangeValue). AddsAll (f shown.widths) shown cs (Err e) new) list
+    (adds_refused (f shown.widths) shown new (map change_value c.in_ok-copied.field-0.items) n e c.in_err-add_changes.ensures.adds))))
+
+pub returns-in_err-add_changes-clause-no_scroll : goal.returns-in_err-add_changes-clause-no_scroll
+returns-in_err-add_changes-clause-no_scroll g c is =
+    let f = measure g.W.Widths.width_of in
+    let shown = c.self.inside.shown in
+    let e = c.in_err-add_changes.field-0.0 in
+    let n = next_number shown.log - 1 + vec_len c.in_ok-copied.field-0 in
+    let told = err_from_is_err_and c.from_residual-in_err-add_changes.result c.from_residual-in_err-add_changes.ensures.1 in
+    let errs : SurfaceError → Result (Unit {0}) SurfaceError = λ x. Err x in
+    let both : errs e ≡ errs ScrollRegion = ap errs (sym told.2) ∙ sym told.1 ∙ is in
+    let scrolls : e ≡ ScrollRegion = cc in
+    let height : c.args.surface.now.height ≡ shown.height = sym (ap (λ (v : ViewerValue _). v.surface.height) c.self.view_is ∙ c.requires.same_height) in
+    let fits : regions_fit shown.height (map change_value c.in_ok-copied.field-0.items) ≡ true =
+    subst (λ (cs : List ChangeValue). regions_fit shown.height cs ≡ true) (sym c.in_ok-copied.ensures) (subst (λ h. regions_fit h (stream_of c.in_ok-number.changes) ≡ true) height c.in_ok-number.ensures.regions) in
+    never_scrolls (f shown.widths) shown c.add_changes.new.self (map change_value c.in_ok-copied.field-0.items) n e c.in_err-add_changes.ensures.adds fits scrolls

@@ -1,0 +1,50 @@
+-- What callers make of viewers, by the steps that the viewers' own calls are.
+use Rattle.std.specs.Prelude.{◌≡◌, ◌⊎◌, ℕ, List, Result, Ok, Err, if◌then◌else◌}
+use Rattle.termwiz_surface.specs.{ChangeValue, FollowsTo, SurfaceValue, ViewerValue, due, knows, next_number, own_repaint}
+use Rattle.termwiz_surface.specs.declared.surface.SurfaceError.{SurfaceError}
+use Rattle.uses.specs.Turns.{InTurn}
+use Rattle.uses.specs.Making.{AddsList}
+
+module _ {W : Type 0} where
+  -- what a surface answers whoever has number n: what is due, or else its repaint
+  abbrev pub answer_for : SurfaceValue W → ℕ → List ChangeValue
+  answer_for s n = if knows s n then due s.log n else own_repaint s
+
+module _ {W : Type 0} (measure_of : W → List ℕ → ℕ) (s : SurfaceValue W) where
+  -- the answer for its number is made on what a follower shows, where there is memory for a copy
+  abbrev pub CatchesUp :
+      ViewerValue W → Result (Unit {0}) SurfaceError → ViewerValue W → Type 0
+  CatchesUp old result new =
+      AddsList (measure_of old.surface.widths) old.surface (answer_for s old.last) result new.surface
+
+  -- a viewer follows the surface, or fails to
+  abbrev pub FollowsOnce :
+      ViewerValue W → Result (Unit {0}) SurfaceError → ViewerValue W → Type 0
+  FollowsOnce old (Ok u) new = FollowsTo measure_of s old (Ok (next_number s.log)) new
+  FollowsOnce old (Err e) new = FollowsTo measure_of s old (Err e) new
+
+module _ {W : Type 0} (measure_of : W → List ℕ → ℕ) (s : SurfaceValue W) where
+  -- a near viewer follows the surface, and then a far one the near one's own surface
+  abbrev pub Relays :
+      ViewerValue W → ViewerValue W → Result (Unit {0}) SurfaceError → ViewerValue W →
+      ViewerValue W → Type 0
+  Relays near far result near_new far_new =
+      InTurn (λ r. FollowsOnce measure_of s near r near_new) (far_new ≡ far)
+      (λ r. FollowsOnce measure_of near_new.surface far r far_new) result
+
+  -- a first attempt fails, and a second one has this result
+  pub record RelaysAgain (near far : ViewerValue W) (result : Result (Unit {0}) SurfaceError)
+      (near_new far_new : ViewerValue W) : Type 0 where
+    pub error : SurfaceError
+    pub near_mid : ViewerValue W
+    pub far_mid : ViewerValue W
+    pub first : Relays near far (Err error) near_mid far_mid
+    pub second : Relays near_mid far_mid result near_new far_new
+
+  -- it succeeds at once, or there is a second attempt
+  abbrev pub RelaysTwice :
+      ViewerValue W → ViewerValue W → Result (Unit {0}) SurfaceError → ViewerValue W →
+      ViewerValue W → Type 0
+  RelaysTwice near far result near_new far_new =
+      ((result ≡ Ok tt) × Relays near far (Ok tt) near_new far_new)
+      ⊎ RelaysAgain near far result near_new far_new

@@ -70,13 +70,10 @@
 //!   `array`, `array-of=N` or `list`.
 mod cells;
 mod changes;
-mod colors;
-mod constants;
 mod items;
 mod links;
 mod pens;
 pub mod recorded;
 pub mod stage;
 mod texts;
-mod widths;
-mod words;
+mod values;

@@ -11,5 +11,4 @@
 //!   output can't be flushed, each with the status.
 mod endings;
 pub mod recorded_diffs;
-mod shown;
 pub mod stage;

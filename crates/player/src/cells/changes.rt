@@ -1,101 +1,58 @@
 //! Questions about changes.
 use crate::attributes::attribute;
-use crate::cells::pens::pen;
-use crate::cells::words::text;
+use crate::cells::texts::quoted;
 use crate::error::PlayError;
 use crate::shapes::{line_attribute, shape};
-use crate::words::{color, first, given, sides, truth_word};
+use crate::surfaces;
+use crate::words::{first, sides};
 use std::alloc::Global;
-use termwiz_cell::change::{Change, CursorVisibility, Position, SEQ_ZERO};
+use termwiz_cell::change::Change;
 
-pub fn answer(alloc: Global, words: &str) -> Result<String, PlayError> {
+pub fn answer(alloc: Global, words: &str, out: &mut String) -> Result<(), PlayError> {
     let (what, words) = first(words)?;
     match what {
-        "show" => show(alloc, words),
-        "same" => truth_word(alloc, is_same(alloc, words)?),
-        "blinks" => truth_word(alloc, shape(words)?.is_blinking()),
-        _ => Err(PlayError::Bad),
+        "show" => {
+            let change = change(alloc, words)?;
+            if change.is_text() {
+                write!(out, "{:?}", Some(change.text()))?;
+            } else {
+                out.push_str("None")?;
+            }
+        }
+        "same" => {
+            let (one, other) = sides(words)?;
+            let (one, other) = (change(alloc, one)?, change(alloc, other)?);
+            write!(out, "{}", one == other)?;
+        }
+        "blinks" => write!(out, "{}", shape(words)?.is_blinking())?,
+        _ => return Err(PlayError::Bad),
     }
+    Ok(())
 }
 
-fn show(alloc: Global, words: &str) -> Result<String, PlayError> {
-    let change = change(alloc, words)?;
-    shown(alloc, &change)
-}
-
-fn shown(alloc: Global, change: &Change) -> Result<String, PlayError> {
-    let text = if change.is_text() {
-        Some(change.text())
-    } else {
-        None
-    };
-    Ok(format!(in alloc; "{text:?}")?)
-}
-
-fn is_same(alloc: Global, words: &str) -> Result<bool, PlayError> {
-    let (one, other) = sides(words)?;
-    let one = change(alloc, one)?;
-    let other = change(alloc, other)?;
-    Ok(one == other)
-}
-
+// The change of some words, or its copy. Those that aren't named here are words of surfaces.
 fn change(alloc: Global, words: &str) -> Result<Change, PlayError> {
-    match words.strip_prefix("copy ") {
-        Some(words) => Ok(made(alloc, words)?.clone()?),
-        None => made(alloc, words),
-    }
-}
-
-fn made(alloc: Global, words: &str) -> Result<Change, PlayError> {
-    let (kind, words) = words.split_once(' ').unwrap_or((words, ""));
-    match kind {
-        "visible" => Ok(Change::CursorVisibility(CursorVisibility::default())),
-        "up" => Ok(up()),
-        "text" => Ok(Change::text_from(alloc, text(words))?),
-        "from" => Ok(Change::from(text(words).to_owned(alloc)?)),
-        "title" => Ok(Change::Title(text(words).to_owned(alloc)?)),
-        "pen" => Ok(Change::AllAttributes(pen(alloc, words)?)),
-        "set" => Ok(Change::from(attribute(alloc, words)?)),
-        "line" => Ok(Change::LineAttribute(line_attribute(words)?)),
-        "size" => Ok(Change::from(line_attribute(words)?)),
-        "color" => Ok(Change::CursorColor(color(words)?)),
-        "clear" => Ok(Change::ClearScreen(color(words)?)),
-        "shape" => Ok(Change::CursorShape(shape(words)?)),
-        "scroll-up" => Ok(scrolled_up(numbers(words)?)),
-        "scroll-down" => Ok(scrolled_down(numbers(words)?)),
-        _ => Err(PlayError::Bad),
-    }
-}
-
-/// To the first column, one row up.
-fn up() -> Change {
-    Change::CursorPosition {
-        x: Position::Absolute(SEQ_ZERO),
-        y: Position::Relative(-1),
-    }
-}
-
-/// First row, size and count.
-fn numbers(words: &str) -> Result<(usize, usize, usize), PlayError> {
-    let (first_row, words) = first(words)?;
-    let (size, count) = first(words)?;
-    Ok((given(first_row)?, given(size)?, given(count)?))
-}
-
-fn scrolled_up(numbers: (usize, usize, usize)) -> Change {
-    let (first_row, region_size, scroll_count) = numbers;
-    Change::ScrollRegionUp {
-        first_row,
-        region_size,
-        scroll_count,
-    }
-}
-
-fn scrolled_down(numbers: (usize, usize, usize)) -> Change {
-    let (first_row, region_size, scroll_count) = numbers;
-    Change::ScrollRegionDown {
-        first_row,
-        region_size,
-        scroll_count,
+    let copies = words.starts_with("copy ");
+    let words = words.strip_prefix("copy ").unwrap_or(words);
+    let (kind, rest) = words.split_once(' ').unwrap_or((words, ""));
+    let change = match kind {
+        "text" => Change::text_from(alloc, quoted(rest))?,
+        "from" => Change::from(quoted(rest).to_owned(alloc)?),
+        "title" => Change::Title(quoted(rest).to_owned(alloc)?),
+        "set" => Change::from(attribute(alloc, rest)?),
+        "line" => Change::LineAttribute(line_attribute(rest)?),
+        "size" => Change::from(line_attribute(rest)?),
+        _ => {
+            let words = match words {
+                "up" => "move =0 ~-1",
+                _ => words.strip_prefix("scroll-").unwrap_or(words),
+            };
+            surfaces::changes::change(alloc, words)?.ok_or(PlayError::Bad)?
+        }
+    };
+    if copies {
+        Ok(change.clone()?)
+    } else {
+        Ok(change)
     }
 }

@@ -6,88 +6,77 @@ use crate::places::distance;
 use crate::words::{first, given};
 use cbor::{Reader, put_array, put_bool, put_null, put_signed, put_text, put_unsigned};
 use std::alloc::Global;
+use std::fmt::Debug;
 
-pub fn answer(alloc: Global, words: &str) -> Result<String, PlayError> {
+pub fn answer(alloc: Global, words: &str, out: &mut String) -> Result<(), PlayError> {
     let (what, words) = first(words)?;
     match what {
-        "put" => put(alloc, words),
-        "read" => read(alloc, words),
+        "put" => put(alloc, words, out),
+        "read" => read(alloc, words, out),
         _ => Err(PlayError::Bad),
     }
 }
 
-/// The bytes of the items, one behind the other.
-fn put(alloc: Global, words: &str) -> Result<String, PlayError> {
+// The bytes of the items, one behind the other.
+fn put(alloc: Global, words: &str, out: &mut String) -> Result<(), PlayError> {
     let mut bytes = Vec::new(alloc);
     for word in words.split(' ') {
         put_item(alloc, &mut bytes, word)?;
     }
-    hex(alloc, bytes.as_slice())
+    for byte in bytes {
+        write!(out, "{byte:02x}")?;
+    }
+    Ok(())
 }
 
 fn put_item(alloc: Global, bytes: &mut Vec<u8>, word: &str) -> Result<(), PlayError> {
     let (kind, value) = word.split_once('=').unwrap_or((word, ""));
-    match kind {
-        "unsigned" => put_unsigned(bytes, given(value)?)?,
-        "signed" => put_signed(bytes, distance(value)?)?,
-        "text" => put_text(bytes, unescaped(alloc, value, ' ')?.as_str())?,
-        "false" => put_bool(bytes, false)?,
-        "true" => put_bool(bytes, true)?,
-        "null" => put_null(bytes)?,
-        "array" => put_array(bytes, given(value)?)?,
+    let put = match kind {
+        "unsigned" => put_unsigned(bytes, given(value)?),
+        "signed" => put_signed(bytes, distance(value)?),
+        "text" => put_text(bytes, unescaped(alloc, value, ' ')?.as_str()),
+        "false" => put_bool(bytes, false),
+        "true" => put_bool(bytes, true),
+        "null" => put_null(bytes),
+        "array" => put_array(bytes, given(value)?),
         _ => return Err(PlayError::Bad),
-    }
-    Ok(())
+    };
+    Ok(put?)
 }
 
-fn hex(alloc: Global, bytes: &[u8]) -> Result<String, PlayError> {
-    let mut hex = String::new(alloc);
-    for byte in bytes {
-        write!(hex, "{byte:02x}")?;
-    }
-    Ok(hex)
-}
-
-/// What the calls return in turn, and how many bytes are left behind them.
-fn read(alloc: Global, words: &str) -> Result<String, PlayError> {
+// What the calls return in turn, and how many bytes are left behind them.
+fn read(alloc: Global, words: &str, out: &mut String) -> Result<(), PlayError> {
     let (limit, words) = first(words)?;
     let (word, calls) = first(words)?;
     let bytes = bytes_of(alloc, word)?;
-    match limit {
-        "all" => called(alloc, Reader::new(bytes.as_slice()), calls),
-        _ => called(
-            alloc,
-            Reader::with_limit(bytes.as_slice(), given(limit)?),
-            calls,
-        ),
-    }
-}
-
-fn called(alloc: Global, mut reader: Reader<'_>, calls: &str) -> Result<String, PlayError> {
-    let mut answers = String::new(alloc);
+    let mut reader = match limit {
+        "all" => Reader::new(bytes.as_slice()),
+        _ => Reader::with_limit(bytes.as_slice(), given(limit)?),
+    };
     for call in calls.split(' ') {
-        push_call(&mut answers, &mut reader, call)?;
+        push_call(&mut reader, call, out)?;
     }
-    let left = reader.rest().len();
-    write!(answers, "left {left}")?;
-    Ok(answers)
+    Ok(write!(out, "left {}", reader.rest().len())?)
 }
 
-fn push_call(answers: &mut String, reader: &mut Reader<'_>, call: &str) -> Result<(), PlayError> {
+fn push_call(reader: &mut Reader<'_>, call: &str, out: &mut String) -> Result<(), PlayError> {
     let (name, number) = call.split_once('=').unwrap_or((call, "0"));
     let number = given(number)?;
     match name {
-        "kind" => write!(answers, "{:?}, ", reader.kind())?,
-        "unsigned" => write!(answers, "{:?}, ", reader.unsigned())?,
-        "below" => write!(answers, "{:?}, ", reader.below(number))?,
-        "signed" => write!(answers, "{:?}, ", reader.signed())?,
-        "text" => write!(answers, "{:?}, ", reader.text())?,
-        "boolean" => write!(answers, "{:?}, ", reader.boolean())?,
-        "null" => write!(answers, "{:?}, ", reader.null())?,
-        "array" => write!(answers, "{:?}, ", reader.array())?,
-        "array-of" => write!(answers, "{:?}, ", reader.array_of(number))?,
-        "list" => write!(answers, "{:?}, ", reader.list())?,
-        _ => return Err(PlayError::Bad),
+        "kind" => push_debug(reader.kind(), out),
+        "unsigned" => push_debug(reader.unsigned(), out),
+        "below" => push_debug(reader.below(number), out),
+        "signed" => push_debug(reader.signed(), out),
+        "text" => push_debug(reader.text(), out),
+        "boolean" => push_debug(reader.boolean(), out),
+        "null" => push_debug(reader.null(), out),
+        "array" => push_debug(reader.array(), out),
+        "array-of" => push_debug(reader.array_of(number), out),
+        "list" => push_debug(reader.list(), out),
+        _ => Err(PlayError::Bad),
     }
-    Ok(())
+}
+
+fn push_debug<T: Debug + Drop>(returned: T, out: &mut String) -> Result<(), PlayError> {
+    Ok(write!(out, "{returned:?}, ")?)
 }

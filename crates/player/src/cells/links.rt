@@ -12,114 +12,84 @@ const FAULTS: [LinkError; 4] = [
     LinkError::Memory,
 ];
 
-pub fn answer(alloc: Global, words: &str) -> Result<String, PlayError> {
+pub fn answer(alloc: Global, words: &str, out: &mut String) -> Result<(), PlayError> {
     let (what, words) = first(words)?;
     match what {
-        "read" => read(alloc, words),
-        "show" => show_made(alloc, words),
-        "same" => same(alloc, words),
+        "read" => read(alloc, words, out),
+        "show" => show(&link(alloc, words)?, out),
+        "same" => {
+            let (one, other) = sides(words)?;
+            let (one, other) = (link(alloc, one)?, link(alloc, other)?);
+            let (same, params) = (one == other, one.params() == other.params());
+            Ok(write!(out, "{same}, params {params}")?)
+        }
         _ => Err(PlayError::Bad),
     }
 }
 
-/// The link of a sequence's parts, or why it is none.
-fn read(alloc: Global, words: &str) -> Result<String, PlayError> {
-    let mut parts = Vec::new(alloc);
+/// What each fault is in words.
+pub fn faults(out: &mut String) -> Result<(), PlayError> {
+    for fault in FAULTS {
+        writeln!(out, "{fault:?}: {fault}")?;
+    }
+    Ok(())
+}
+
+// The link of a sequence's parts, or why it is none. One byte that is no text has a word.
+fn read(alloc: Global, words: &str, out: &mut String) -> Result<(), PlayError> {
+    let mut parts: Vec<&[u8]> = Vec::new(alloc);
     for word in words.split(';') {
-        parts.push(part(word))?;
+        parts.push(match word {
+            "\\xff" => &[0xff],
+            _ => word.as_bytes(),
+        })?;
     }
-    match Hyperlink::parse(alloc, parts.as_slice()) {
-        Ok(Some(link)) => show(alloc, &link),
-        Ok(None) => Ok("none".to_owned(alloc)?),
+    push_parsed(Hyperlink::parse(alloc, parts.as_slice()), out)
+}
+
+fn push_parsed(
+    parsed: Result<Option<Hyperlink>, LinkError>,
+    out: &mut String,
+) -> Result<(), PlayError> {
+    match parsed {
+        Ok(Some(link)) => show(&link, out),
+        Ok(None) => Ok(out.push_str("none")?),
         Err(LinkError::Memory) => Err(PlayError::Memory),
-        Err(error) => Ok(format!(in alloc; "{error:?}: {error}")?),
+        Err(error) => Ok(write!(out, "{error:?}: {error}")?),
     }
 }
 
-/// The bytes of a part. A case is text, so one byte that isn't has a word.
-fn part(word: &str) -> &[u8] {
-    if word == "\\xff" {
-        &[0xff]
-    } else {
-        word.as_bytes()
-    }
+fn show(link: &Hyperlink, out: &mut String) -> Result<(), PlayError> {
+    let (uri, count) = (link.uri(), link.params().len());
+    write!(out, "{link}, uri {uri}, params {count}, ")?;
+    Ok(write!(out, "implicit {}", link.is_implicit())?)
 }
 
-fn show_made(alloc: Global, words: &str) -> Result<String, PlayError> {
-    show(alloc, &link(alloc, words)?)
-}
-
-fn show(alloc: Global, link: &Hyperlink) -> Result<String, PlayError> {
-    let (uri, count, implicit) = (link.uri(), link.params().len(), link.is_implicit());
-    Ok(format!(in alloc; "{link}, uri {uri}, params {count}, implicit {implicit}")?)
-}
-
-fn same(alloc: Global, words: &str) -> Result<String, PlayError> {
-    let (one, other) = sides(words)?;
-    let (same, params) = are_same(alloc, one, other)?;
-    Ok(format!(in alloc; "{same}, params {params}")?)
-}
-
-// Whether two links are equal, and whether their params are.
-fn are_same(alloc: Global, one: &str, other: &str) -> Result<(bool, bool), PlayError> {
-    let one = link(alloc, one)?;
-    let other = link(alloc, other)?;
-    Ok((one == other, one.params() == other.params()))
-}
-
+// The link of some words, or its copy.
 fn link(alloc: Global, words: &str) -> Result<Hyperlink, PlayError> {
-    match words.strip_prefix("copy ") {
-        Some(words) => Ok(made(alloc, words)?.clone()?),
-        None => made(alloc, words),
-    }
-}
-
-fn made(alloc: Global, words: &str) -> Result<Hyperlink, PlayError> {
-    let (kind, words) = first(words)?;
-    match kind {
-        "plain" => Ok(Hyperlink::new(alloc, words.to_owned(alloc)?)),
-        "implicit" => Ok(Hyperlink::new_implicit(alloc, words.to_owned(alloc)?)),
-        "id" => with_id(alloc, words),
-        "params" => with_params(alloc, words),
-        _ => Err(PlayError::Bad),
-    }
-}
-
-fn with_id(alloc: Global, words: &str) -> Result<Hyperlink, PlayError> {
-    let (id, uri) = first(words)?;
-    let link = Hyperlink::new_with_id(alloc, uri.to_owned(alloc)?, id.to_owned(alloc)?)?;
-    Ok(link)
-}
-
-fn with_params(alloc: Global, words: &str) -> Result<Hyperlink, PlayError> {
-    let (pairs, uri) = first(words)?;
-    let params = params(alloc, pairs)?;
-    Ok(Hyperlink::new_with_params(uri.to_owned(alloc)?, params))
+    let copies = words.starts_with("copy ");
+    let (kind, words) = first(words.strip_prefix("copy ").unwrap_or(words))?;
+    let link = match kind {
+        "plain" => Hyperlink::new(alloc, words.to_owned(alloc)?),
+        "implicit" => Hyperlink::new_implicit(alloc, words.to_owned(alloc)?),
+        "id" => {
+            let (id, uri) = first(words)?;
+            Hyperlink::new_with_id(alloc, uri.to_owned(alloc)?, id.to_owned(alloc)?)?
+        }
+        "params" => {
+            let (pairs, uri) = first(words)?;
+            Hyperlink::new_with_params(uri.to_owned(alloc)?, params(alloc, pairs)?)
+        }
+        _ => return Err(PlayError::Bad),
+    };
+    if copies { Ok(link.clone()?) } else { Ok(link) }
 }
 
 fn params(alloc: Global, pairs: &str) -> Result<BTreeMap<String, String>, PlayError> {
     let mut params = BTreeMap::new(alloc);
     for pair in pairs.split(':') {
-        add_param(alloc, &mut params, pair)?;
+        let (key, value) = pair.split_once('=').ok_or(PlayError::Bad)?;
+        params.insert(key.to_owned(alloc)?, value.to_owned(alloc)?)?;
     }
     Ok(params)
-}
-
-fn add_param(
-    alloc: Global,
-    params: &mut BTreeMap<String, String>,
-    pair: &str,
-) -> Result<(), PlayError> {
-    let (key, value) = pair.split_once('=').ok_or(PlayError::Bad)?;
-    params.insert(key.to_owned(alloc)?, value.to_owned(alloc)?)?;
-    Ok(())
-}
-
-/// What each fault is in words.
-pub fn faults(alloc: Global) -> Result<String, PlayError> {
-    let mut lines = String::new(alloc);
-    for fault in FAULTS {
-        writeln!(lines, "{fault:?}: {fault}")?;
-    }
-    Ok(lines)
 }

@@ -1,85 +1,48 @@
-//! Questions about attributes.
+//! Questions about attributes, and the pen that is set.
 use crate::attributes::{attribute, link};
 use crate::error::PlayError;
-use crate::pens;
+use crate::pens::pen;
 use crate::words::{color, first, sides};
 use std::alloc::Global;
 use termwiz_cell::cell::CellAttributes;
-use termwiz_cell::color::ColorAttribute;
 
-pub fn answer(alloc: Global, words: &str) -> Result<String, PlayError> {
+/// What isn't default in a pen, or whether two pens are equal, and whether all but their colours
+/// and links are.
+pub fn answer(alloc: Global, words: &str, out: &mut String) -> Result<(), PlayError> {
     let (what, words) = first(words)?;
     match what {
-        "show" => show(alloc, words),
-        "same" => same(alloc, words),
+        "show" => show(&pen(alloc, words, ' ')?, out),
+        "same" => {
+            let (one, other) = sides(words)?;
+            let (one, other) = (pen(alloc, one, ' ')?, pen(alloc, other, ' ')?);
+            let (same, bits) = (one == other, one.attribute_bits_equal(&other));
+            Ok(write!(out, "{same}, bits {bits}")?)
+        }
         _ => Err(PlayError::Bad),
     }
 }
 
-fn show(alloc: Global, words: &str) -> Result<String, PlayError> {
-    let pen = pen(alloc, words)?;
-    shown(alloc, &pen)
-}
-
 /// What isn't default, and whether it is blank.
-pub fn shown(alloc: Global, pen: &CellAttributes) -> Result<String, PlayError> {
-    let blank = pen.is_blank();
-    Ok(format!(in alloc; "{pen:?}, blank {blank}")?)
-}
-
-fn same(alloc: Global, words: &str) -> Result<String, PlayError> {
-    let (one, other) = sides(words)?;
-    let (same, bits) = are_same(alloc, one, other)?;
-    Ok(format!(in alloc; "{same}, bits {bits}")?)
-}
-
-// Whether two pens are equal, and whether all but their colours and links are.
-fn are_same(alloc: Global, one: &str, other: &str) -> Result<(bool, bool), PlayError> {
-    let one = pen(alloc, one)?;
-    let other = pen(alloc, other)?;
-    Ok((one == other, one.attribute_bits_equal(&other)))
-}
-
-/// What the words make of blank attributes.
-pub fn pen(alloc: Global, words: &str) -> Result<CellAttributes, PlayError> {
-    pens::pen(alloc, words, ' ')
+pub fn show(pen: &CellAttributes, out: &mut String) -> Result<(), PlayError> {
+    Ok(write!(out, "{pen:?}, blank {}", pen.is_blank())?)
 }
 
 /// Sets a colour or a link, puts a copy in the pen's place, or applies a change behind `+`.
 pub fn set(alloc: Global, pen: &mut CellAttributes, word: &str) -> Result<(), PlayError> {
     if let Some(word) = word.strip_prefix('+') {
         let change = attribute(alloc, word)?;
-        pen.apply_change(alloc, &change)?;
+        return Ok(pen.apply_change(alloc, &change)?);
+    }
+    if word == "copy" {
+        *pen = pen.clone()?;
         return Ok(());
     }
-    match word.split_once('=') {
-        Some((name, value)) => set_color(alloc, pen, name, color(value)?),
-        None => set_other(alloc, pen, word),
-    }
-}
-
-fn set_color(
-    alloc: Global,
-    pen: &mut CellAttributes,
-    name: &str,
-    color: ColorAttribute,
-) -> Result<(), PlayError> {
-    match name {
-        "fg" => pen.set_foreground(alloc, color)?,
-        "bg" => pen.set_background(alloc, color)?,
-        "line" => pen.set_underline_color(alloc, color)?,
+    match word.split_once('=').unwrap_or((word, "")) {
+        ("fg", value) => pen.set_foreground(alloc, color(value)?)?,
+        ("bg", value) => pen.set_background(alloc, color(value)?)?,
+        ("line", value) => pen.set_underline_color(alloc, color(value)?)?,
+        ("link", _) => pen.set_hyperlink(alloc, Some(link(alloc)?))?,
         _ => return Err(PlayError::Bad),
     };
-    Ok(())
-}
-
-fn set_other(alloc: Global, pen: &mut CellAttributes, word: &str) -> Result<(), PlayError> {
-    if word == "link" {
-        pen.set_hyperlink(alloc, Some(link(alloc)?))?;
-    } else if word == "copy" {
-        *pen = pen.clone()?;
-    } else {
-        return Err(PlayError::Bad);
-    }
     Ok(())
 }

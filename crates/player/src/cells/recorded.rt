@@ -2,8 +2,8 @@
 //! link of a sequence's parts, in hex digits and `-` for an empty part: `none`, why it is none, or
 //! its uri and its params, and its text where it has at most one. `> color R G B` asks for both
 //! texts of a colour.
+use crate::cells::texts::push_word;
 use crate::error::PlayError;
-use crate::escapes::escaped;
 use crate::hex::bytes_of;
 use crate::play::Play;
 use crate::words::first;
@@ -17,72 +17,60 @@ pub struct Player(pub Global);
 
 impl Play for Player {
     fn line(&mut self, line: &str) -> Result<String, PlayError> {
+        let mut out = String::new(self.0);
         match line.strip_prefix("> parse") {
-            Some(parts) => parse(self.0, parts),
-            None => color(self.0, line.strip_prefix("> color ").ok_or(PlayError::Bad)?),
+            Some(parts) => parse(self.0, parts, &mut out)?,
+            None => color(self.0, line, &mut out)?,
         }
+        Ok(out)
     }
 }
 
 // Behind each space stands a part.
-fn parse(alloc: Global, words: &str) -> Result<String, PlayError> {
+fn parse(alloc: Global, words: &str, out: &mut String) -> Result<(), PlayError> {
     let mut parts: Vec<Vec<u8>> = Vec::new(alloc);
     for word in words.split(' ').skip(1) {
         parts.push(bytes_of(alloc, word)?)?;
     }
     let lent: Vec<&[u8]> = parts.iter().map(|part| part.as_slice()).collect(alloc)?;
-    parsed_words(alloc, Hyperlink::parse(alloc, lent.as_slice()))
+    push_parsed(alloc, Hyperlink::parse(alloc, lent.as_slice()), out)
 }
 
-fn parsed_words(
+fn push_parsed(
     alloc: Global,
     parsed: Result<Option<Hyperlink>, LinkError>,
-) -> Result<String, PlayError> {
-    match parsed {
-        Ok(Some(link)) => link_words(alloc, &link),
-        Ok(None) => Ok("none".to_owned(alloc)?),
-        Err(LinkError::WrongParamCount) => Ok("fault count".to_owned(alloc)?),
-        Err(LinkError::NotUtf8) => Ok("fault utf8".to_owned(alloc)?),
-        Err(LinkError::BadParams) => Ok("fault params".to_owned(alloc)?),
-        Err(LinkError::Memory) => Err(PlayError::Memory),
-    }
+    out: &mut String,
+) -> Result<(), PlayError> {
+    let word = match parsed {
+        Ok(Some(link)) => return push_link(alloc, &link, out),
+        Ok(None) => "none",
+        Err(LinkError::WrongParamCount) => "fault count",
+        Err(LinkError::NotUtf8) => "fault utf8",
+        Err(LinkError::BadParams) => "fault params",
+        Err(LinkError::Memory) => return Err(PlayError::Memory),
+    };
+    Ok(out.push_str(word)?)
 }
 
-fn link_words(alloc: Global, link: &Hyperlink) -> Result<String, PlayError> {
-    let mut words = String::from_str(alloc, "link ")?;
-    words.push_str(escaped(alloc, link.uri())?.as_str())?;
+fn push_link(alloc: Global, link: &Hyperlink, out: &mut String) -> Result<(), PlayError> {
+    push_word(alloc, "link ", link.uri(), out)?;
     for (key, value) in link.params() {
-        push_param(alloc, &mut words, key.as_str(), value.as_str())?;
+        push_word(alloc, " ", key.as_str(), out)?;
+        push_word(alloc, "=", value.as_str(), out)?;
     }
     if link.params().len() <= 1 {
-        push_shown(alloc, &mut words, link)?;
+        push_word(alloc, "\nshown ", link.to_string(alloc)?.as_str(), out)?;
     }
-    Ok(words)
-}
-
-fn push_param(alloc: Global, words: &mut String, key: &str, value: &str) -> Result<(), PlayError> {
-    let key = escaped(alloc, key)?;
-    let value = escaped(alloc, value)?;
-    write!(words, " {key}={value}")?;
     Ok(())
 }
 
-fn push_shown(alloc: Global, words: &mut String, link: &Hyperlink) -> Result<(), PlayError> {
-    let shown = format!(in alloc; "{link}")?;
-    let word = escaped(alloc, shown.as_str())?;
-    write!(words, "\nshown {word}")?;
-    Ok(())
-}
-
-fn color(alloc: Global, words: &str) -> Result<String, PlayError> {
+fn color(alloc: Global, line: &str, out: &mut String) -> Result<(), PlayError> {
+    let words = line.strip_prefix("> color ").ok_or(PlayError::Bad)?;
     let (red, words) = first(words)?;
     let (green, blue) = first(words)?;
+    let part = |word: &str| word.parse::<u8>().map_err(|_| PlayError::Bad);
     let color = RgbColor::new_8bpc(part(red)?, part(green)?, part(blue)?);
     let short = color.to_rgb_string(alloc)?;
     let long = color.to_x11_16bit_rgb_string(alloc)?;
-    Ok(format!(in alloc; "{short} {long}")?)
-}
-
-fn part(word: &str) -> Result<u8, PlayError> {
-    word.parse().map_err(|_| PlayError::Bad)
+    Ok(write!(out, "{short} {long}")?)
 }

@@ -1,29 +1,25 @@
 //! Lines of the cases, and their answers by topic.
-use crate::cells::words::text;
-use crate::cells::{cells, changes, colors, constants, items, links, pens, texts, widths};
+use crate::cells::texts::quoted;
+use crate::cells::{cells, changes, items, links, pens, texts, values};
 use crate::error::PlayError;
+use crate::pens::pen;
 use crate::play::Play;
 use std::alloc::Global;
 use termwiz_cell::cell::CellAttributes;
 
-/// Answers the lines.
+/// Answers the lines, and keeps the pen that is set.
 #[derive(Drop)]
 pub struct Stage {
     alloc: Global,
-    // The pen that is set.
     pen: CellAttributes,
 }
 
 impl Play for Stage {
     fn line(&mut self, line: &str) -> Result<String, PlayError> {
-        match line.split_once(' ') {
-            Some(("case", _)) => self.silent(),
-            Some(("new", words)) => self.make(words),
-            Some(("set", word)) => self.set(word),
-            Some(("free", word)) => self.set_free(word),
-            Some((topic, rest)) => answer(self.alloc, topic, rest),
-            None => self.asked(line),
-        }
+        let mut out = String::new(self.alloc);
+        let (topic, words) = line.split_once(' ').unwrap_or((line, ""));
+        self.answer(topic, words, &mut out)?;
+        Ok(out)
     }
 }
 
@@ -35,57 +31,40 @@ impl Stage {
         }
     }
 
-    // No answer.
-    fn silent(&self) -> Result<String, PlayError> {
-        Ok(String::new(self.alloc))
-    }
-
-    fn make(&mut self, words: &str) -> Result<String, PlayError> {
-        self.pen = pens::pen(self.alloc, words)?;
-        self.silent()
-    }
-
-    fn set(&mut self, word: &str) -> Result<String, PlayError> {
-        pens::set(self.alloc, &mut self.pen, word)?;
-        self.silent()
-    }
-
-    // Fails with `Differs` where this takes memory that is refused.
-    fn set_free(&mut self, word: &str) -> Result<String, PlayError> {
-        match self.set(word) {
-            Err(PlayError::Memory) => Err(PlayError::Differs),
-            set => set,
-        }
-    }
-
-    fn asked(&self, word: &str) -> Result<String, PlayError> {
-        match word {
-            "pen" => pens::shown(self.alloc, &self.pen),
-            "lent" => cells::lent(self.alloc),
-            "defaults" => constants::defaults(self.alloc),
-            "styles" => constants::styles(self.alloc),
-            "faults" => links::faults(self.alloc),
-            _ => Err(PlayError::Bad),
+    // What takes memory that is refused fails with `Differs` behind `free`.
+    fn answer(&mut self, topic: &str, words: &str, out: &mut String) -> Result<(), PlayError> {
+        match topic {
+            "case" => Ok(()),
+            "new" => {
+                self.pen = pen(self.alloc, words, ' ')?;
+                Ok(())
+            }
+            "set" => pens::set(self.alloc, &mut self.pen, words),
+            "free" => match pens::set(self.alloc, &mut self.pen, words) {
+                Err(PlayError::Memory) => Err(PlayError::Differs),
+                set => set,
+            },
+            "pen" if words.is_empty() => pens::show(&self.pen, out),
+            _ => answer(self.alloc, topic, words, out),
         }
     }
 }
 
-fn answer(alloc: Global, topic: &str, rest: &str) -> Result<String, PlayError> {
+fn answer(alloc: Global, topic: &str, words: &str, out: &mut String) -> Result<(), PlayError> {
     match topic {
-        "colour" => colors::answer(alloc, rest),
-        "ansi" => colors::ansi(alloc, rest),
-        "spec" => colors::spec(alloc, rest),
-        "link" => links::answer(alloc, rest),
-        "pen" => pens::answer(alloc, rest),
-        "cell" => cells::answer(alloc, rest),
-        "clusters" => cells::clusters(alloc, text(rest)),
-        "change" => changes::answer(alloc, rest),
-        "columns" => widths::columns(alloc, rest),
-        "form" => widths::form(alloc, text(rest)),
-        "white" => widths::white(alloc, text(rest)),
-        "version" => widths::version(alloc, rest),
-        "order" => constants::order(alloc, rest),
-        "item" => items::answer(alloc, rest),
-        _ => texts::answer(alloc, topic, rest),
+        "colour" | "ansi" | "spec" => values::colors(alloc, topic, words, out),
+        "columns" | "form" | "white" | "version" => values::widths(topic, words, out),
+        "defaults" => values::defaults(out),
+        "styles" => values::styles(out),
+        "order" => values::order(words, out),
+        "link" => links::answer(alloc, words, out),
+        "faults" => links::faults(out),
+        "pen" => pens::answer(alloc, words, out),
+        "cell" => cells::answer(alloc, words, out),
+        "clusters" => cells::clusters(alloc, quoted(words), out),
+        "lent" => cells::lent(out),
+        "change" => changes::answer(alloc, words, out),
+        "item" => items::answer(alloc, words, out),
+        _ => texts::answer(alloc, topic, words, out),
     }
 }

@@ -3,8 +3,7 @@ use crate::error::PlayError;
 use sessions::ending::SessionError;
 use sessions::view::{USAGE, view_session};
 use std::alloc::Global;
-use std::io;
-use std::io::{ErrorKind, Write};
+use std::io::{self, ErrorKind, Write};
 
 /// Keeps what is written, and can't be flushed.
 #[derive(Drop)]
@@ -20,29 +19,21 @@ impl Write for Sink {
     }
 }
 
-/// How refused memory is reported.
-pub fn memory_report(alloc: Global) -> Result<String, PlayError> {
-    let mut err = Vec::new(alloc);
-    let status = SessionError::Memory.report(USAGE, &mut err);
-    ending(alloc, err.as_slice(), status)
+/// Adds what a session writes, and the status with which it ends: `report` of one whose memory is
+/// refused, or `flush` of one whose output can't be flushed.
+pub fn push_ending(alloc: Global, session: &str, out: &mut String) -> Result<(), PlayError> {
+    let mut written = Sink(Vec::new(alloc));
+    let status = match session {
+        "report" => SessionError::Memory.report(USAGE, &mut written),
+        _ => show(alloc, &mut written)?,
+    };
+    let text = str::from_utf8(written.0.as_slice()).map_err(|_| PlayError::Bad)?;
+    Ok(writeln!(out, "{text}status {status}")?)
 }
 
-/// What a session writes that shows a screen of 4 columns and 3 rows, and how it ends.
-pub fn unflushed(alloc: Global) -> Result<String, PlayError> {
-    let mut args = Vec::new(alloc);
-    args.push("4".to_owned(alloc)?)?;
-    args.push("3".to_owned(alloc)?)?;
-    let mut out = Sink(Vec::new(alloc));
-    let status = shown(alloc, args.as_slice(), &mut out);
-    ending(alloc, out.0.as_slice(), status)
-}
-
-fn shown(alloc: Global, args: &[String], out: &mut Sink) -> u8 {
+// Shows a screen of 4 columns and 3 rows.
+fn show(alloc: Global, written: &mut Sink) -> Result<u8, PlayError> {
+    let args = vec![in alloc; "4".to_owned(alloc)?, "3".to_owned(alloc)?]?;
     let (mut script, mut err): (&[u8], Vec<u8>) = (b"show\n", Vec::new(alloc));
-    view_session(alloc, args, &mut script, out, &mut err)
-}
-
-fn ending(alloc: Global, written: &[u8], status: u8) -> Result<String, PlayError> {
-    let text = str::from_utf8(written).map_err(|_| PlayError::Bad)?;
-    Ok(format!(in alloc; "{text}status {status}\n")?)
+    Ok(view_session(alloc, args.as_slice(), &mut script, written, &mut err))
 }

@@ -1,14 +1,30 @@
 //! What the lines of the cases do, and their answers.
 use crate::error::PlayError;
 use crate::play::Play;
-use crate::scripts::endings::{memory_report, unflushed};
-use crate::scripts::shown::{accept_error, listed, printed, printed_many, surface_error};
+use crate::scripts::endings::push_ending;
 use crate::surfaces::changes::change;
-use crate::words::{given, pair};
-use std::alloc::Global;
+use crate::words::{first, given, named, pair};
+use sessions::printed::PrintedMany;
+use sessions::view::script::{Events, read};
+use std::alloc::{AllocError, Global};
 use std::mem;
 use termwiz_cell::change::Change;
-use termwiz_surface::view::{ManyOutcome, Outcome};
+use termwiz_cell::emoji::UnicodeWidths;
+use termwiz_surface::surface::SurfaceError;
+use termwiz_surface::view::{AcceptError, Event, ManyEvent, ManyOutcome, Outcome};
+
+const SURFACE_ERRORS: [(&str, SurfaceError); 3] = [
+    ("region", SurfaceError::ScrollRegion),
+    ("numbers", SurfaceError::Numbers),
+    ("memory", SurfaceError::Memory),
+];
+
+const ACCEPT_ERRORS: [(&str, AcceptError); 4] = [
+    ("size", AcceptError::Size),
+    ("stale", AcceptError::Stale),
+    ("numbers", AcceptError::Numbers),
+    ("memory", AcceptError::Memory),
+];
 
 /// The lines of an input, and the changes for an outcome.
 #[derive(Drop)]
@@ -20,14 +36,12 @@ pub struct Stage {
 
 impl Play for Stage {
     fn line(&mut self, line: &str) -> Result<String, PlayError> {
-        if let Some(text) = line.strip_prefix('|') {
-            return self.add_line(text);
+        let mut out = String::new(self.alloc);
+        match line.strip_prefix('|') {
+            Some(text) => writeln!(self.input, "{text}")?,
+            None => self.answer(line, &mut out)?,
         }
-        if let Some(words) = line.strip_prefix("change ") {
-            return self.add_change(words);
-        }
-        let words: Vec<&str> = line.split(' ').collect(self.alloc)?;
-        self.command(words.as_slice())
+        Ok(out)
     }
 }
 
@@ -40,65 +54,87 @@ impl Stage {
         }
     }
 
-    fn command(&mut self, words: &[&str]) -> Result<String, PlayError> {
-        match words {
-            ["case", ..] => self.begin(),
-            ["events"] => self.events(),
-            ["shown", x, y] => self.shown(x, y),
-            ["asked", number] => self.asked(number),
-            _ => self.print(words),
+    fn answer(&mut self, line: &str, out: &mut String) -> Result<(), PlayError> {
+        let (name, words) = line.split_once(' ').unwrap_or((line, ""));
+        match name {
+            "case" => *self = Stage::new(self.alloc),
+            "change" => {
+                let change = change(self.alloc, words)?;
+                self.changes.push(change.ok_or(PlayError::Bad)?)?;
+            }
+            "events" => {
+                push_events(self.alloc, self.input.as_str(), out)?;
+                self.input.clear();
+            }
+            "report" | "flush" => push_ending(self.alloc, name, out)?,
+            _ => {
+                let outcome = self.outcome(name, words)?;
+                write!(out, "{}", PrintedMany(&outcome))?;
+            }
         }
+        Ok(())
     }
 
-    fn print(&self, words: &[&str]) -> Result<String, PlayError> {
-        match words {
-            ["report"] => memory_report(self.alloc),
-            ["flush"] => unflushed(self.alloc),
-            ["answered", number] => printed(self.alloc, &Outcome::Answered(given(number)?)),
-            ["refused", word] => printed(self.alloc, &Outcome::Refused(surface_error(word)?)),
-            ["unaccepted", word] => {
-                printed_many(self.alloc, &ManyOutcome::NotAccepted(accept_error(word)?))
+    // The lines of the input are the rows that are shown.
+    fn outcome(&mut self, name: &str, words: &str) -> Result<ManyOutcome, PlayError> {
+        match name {
+            "answered" => Ok(ManyOutcome::Of(Outcome::Answered(given(words)?))),
+            "refused" => Ok(ManyOutcome::Of(Outcome::Refused(named(&SURFACE_ERRORS, words)?))),
+            "unanswered" => Ok(ManyOutcome::Refused(named(&SURFACE_ERRORS, words)?)),
+            "unaccepted" => Ok(ManyOutcome::NotAccepted(named(&ACCEPT_ERRORS, words)?)),
+            "shown" => {
+                let (x, y) = first(words)?;
+                let place = pair(x, y)?;
+                let rows = mem::replace(&mut self.input, String::new(self.alloc));
+                Ok(ManyOutcome::Of(Outcome::Shown(rows, place)))
             }
-            ["unanswered", word] => {
-                printed_many(self.alloc, &ManyOutcome::Refused(surface_error(word)?))
+            "asked" => {
+                let number = given(words)?;
+                let changes = mem::replace(&mut self.changes, Vec::new(self.alloc));
+                Ok(ManyOutcome::Of(Outcome::Asked(number, changes)))
             }
             _ => Err(PlayError::Bad),
         }
     }
+}
 
-    fn begin(&mut self) -> Result<String, PlayError> {
-        *self = Stage::new(self.alloc);
-        Ok(String::new(self.alloc))
+// Adds each event of a script, on a line of its own.
+fn push_events(alloc: Global, script: &str, out: &mut String) -> Result<(), PlayError> {
+    match read(alloc, script) {
+        Ok(Events::OfOne(events)) => {
+            for event in events.as_slice() {
+                push_event(event, out)?;
+            }
+        }
+        Ok(Events::OfMany(events)) => {
+            for event in events.as_slice() {
+                push_many(event, out)?;
+            }
+        }
+        Err(_) => return Err(PlayError::Bad),
     }
+    Ok(())
+}
 
-    fn add_line(&mut self, text: &str) -> Result<String, PlayError> {
-        self.input.push_str(text)?;
-        self.input.push('\n')?;
-        Ok(String::new(self.alloc))
+fn push_many(event: &ManyEvent<UnicodeWidths>, out: &mut String) -> Result<(), AllocError> {
+    match event {
+        ManyEvent::On(event) => push_event(event, out),
+        ManyEvent::AnswerFor(viewer) => writeln!(out, "answer {viewer}"),
+        ManyEvent::Deliver(viewer, answer) => writeln!(out, "deliver {viewer} {answer}"),
+        ManyEvent::ResizeViewer(viewer, width, height) => {
+            writeln!(out, "size {viewer} {width} {height}")
+        }
     }
+}
 
-    fn add_change(&mut self, words: &str) -> Result<String, PlayError> {
-        let change = change(self.alloc, words)?.ok_or(PlayError::Bad)?;
-        self.changes.push(change)?;
-        Ok(String::new(self.alloc))
-    }
-
-    fn events(&mut self) -> Result<String, PlayError> {
-        let events = listed(self.alloc, self.input.as_str())?;
-        self.input.clear();
-        Ok(events)
-    }
-
-    // The lines of the input are the rows.
-    fn shown(&mut self, x: &str, y: &str) -> Result<String, PlayError> {
-        let place = pair(x, y)?;
-        let rows = mem::replace(&mut self.input, String::new(self.alloc));
-        printed(self.alloc, &Outcome::Shown(rows, place))
-    }
-
-    fn asked(&mut self, number: &str) -> Result<String, PlayError> {
-        let number = given(number)?;
-        let changes = mem::replace(&mut self.changes, Vec::new(self.alloc));
-        printed(self.alloc, &Outcome::Asked(number, changes))
+fn push_event(event: &Event<UnicodeWidths>, out: &mut String) -> Result<(), AllocError> {
+    match event {
+        Event::Changes(changes) => writeln!(out, "changes {changes:?}"),
+        Event::Resize(width, height) => writeln!(out, "resize {width} {height}"),
+        Event::Flush(seq) => writeln!(out, "flush {seq}"),
+        Event::Follow => writeln!(out, "view"),
+        Event::Show => writeln!(out, "show"),
+        Event::Ask(seq) => writeln!(out, "ask {seq}"),
+        Event::Draw(..) | Event::Copy(..) => writeln!(out, "another event"),
     }
 }

@@ -357,8 +357,8 @@ tk_status tk_first_grapheme(const char *text, size_t len, size_t *bytes);
 /* ---- Changes of a surface ----
  *
  * Each call takes a surface. Each change is logged with a number, one above the one before. What no
- * answer can need is forgotten by itself, also where the call fails. TK_WRONG_KIND: the handle has
- * another kind. TK_NUMBERS: there are too few numbers left. TK_MEMORY: either there was none for
+ * answer can need is forgotten by itself, also where a change is refused. TK_WRONG_KIND: the handle
+ * has another kind. TK_NUMBERS: there are too few numbers left. TK_MEMORY: either there was none for
  * the changes themselves, and nothing has changed, or the surface may show anything in its size,
  * and its log is empty. */
 
@@ -703,7 +703,7 @@ tk_status tk_add_unlogged_scrolling_distinct(tk_handle *surface, const tk_change
 /* Makes a list of changes, as tk_add_changes does, and moves the rows that they scroll off the top
  * of the surface to the end of the lines, the first one first. A text scrolls rows off, and a
  * scroll up of a region that begins with row 0. After an error no line is added, except that after
- * TK_MEMORY the lines of some rows may be. */
+ * TK_MEMORY lines of some of these rows may have been. */
 static inline tk_status tk_add_changes_scrolling(tk_handle *surface, const tk_change *changes,
                                                  size_t count, const char *texts, size_t len,
                                                  tk_handle *lines) {

@@ -255,7 +255,7 @@ impl Surface {
     /// # Errors
     ///
     /// Those of [`Surface::add_changes`]. No line is added then, except that after
-    /// [`Error::Memory`] the lines of some rows may be.
+    /// [`Error::Memory`] lines of some of these rows may have been.
     ///
     /// # Examples
     ///

@@ -13,3 +13,6 @@ mod Taken
 mod Making
 mod Returned
 mod Following
+mod Streams
+mod Prompting
+mod TwoSources

@@ -1,8 +1,9 @@
 -- What adding changes makes of a full screen.
-use Rattle.std.proofs.Common.{◌≡◌, ℕ, List, ap, ◌∙◌}
-use Rattle.std.specs.Prelude.{Result, Ok, Err, IfErr, OnOk}
+use Rattle.std.proofs.Common.{◌≡◌, ℕ, ◌+◌, ◌-◌, ◌≤◌, List, [], ◌∷◌, length, length-append, length-drop, true, false, refl, ap, ◌∙◌, arith}
+use Rattle.std.proofs.lemmas.Bool.Decides.{nat_tests}
+use Rattle.std.specs.Prelude.{Bool, ◌&&◌, nat_le, Result, Ok, Err, IfErr, OnOk, if◌then◌else◌}
 use Rattle.termwiz_share.specs.{trimmed}
-use Rattle.termwiz_surface.specs.{Adds, ChangeValue, FullScreen, Kept, Screen, SurfaceValue, full_of, full_replay, full_screen, kept_of, replay, replay_kept, screen_of}
+use Rattle.termwiz_surface.specs.{Adds, ChangeValue, Kept, LogValue, Screen, SurfaceValue, delta_limit, due, flushed, full_of, full_replay, full_screen, kept_of, next_number, replay, replay_kept, screen_of}
 use Rattle.termwiz_surface.specs.declared.surface.SurfaceError.{SurfaceError}
 use Rattle.termwiz_surface.specs.declared.surface.SurfaceError.TheVariants.{Memory, Numbers, ScrollRegion}
 use Rattle.uses.specs.Serving.{Stands}
@@ -24,3 +25,19 @@ module _ {W : Type 0} (f : List ℕ → ℕ) (old : SurfaceValue W) (changes : L
   made_widths (Err ScrollRegion) new adds = ap (λ (s : SurfaceValue W). s.widths) adds.1
   made_widths (Err Numbers) new adds = ap (λ (s : SurfaceValue W). s.widths) adds.2
   made_widths (Err Memory) new adds = adds.3.widths
+
+-- the log has this number, or it is the coming one
+abbrev has : LogValue → ℕ → Bool
+has l n = nat_le l.first n && nat_le n (next_number l)
+
+-- forgetting changes leaves the number
+flushed_number : (l : LogValue) (n : ℕ) → next_number (flushed l n) ≡ next_number l
+flushed_number l n =
+    elim (has l n) as (λ b. has l n ≡ b → (if b then n else l.first) + length (if b then due l n else l.changes) ≡ l.first + length l.changes) [
+      | true ↦ λ e. let low : l.first ≤ n = grind (arith, nat_tests) in let high : n ≤ next_number l = grind (arith, nat_tests) in omega (arith, low, high, length-drop (n - l.first) l.changes)
+      | false ↦ λ e. refl
+    ] refl
+
+pub made_counted : {W : Type 0} (f : List ℕ → ℕ) (old : SurfaceValue W) (c : ChangeValue) (n : ℕ) (result : Result ℕ SurfaceError) (new : SurfaceValue W) → Adds f (trimmed old) (c ∷ []) n result new → OnOk result (next_number new.log ≡ next_number old.log + 1)
+made_counted f old c n (Ok k) new adds = ap next_number adds.3.log ∙ omega (arith, length-append (trimmed old).log.changes (c ∷ []), flushed_number old.log (next_number old.log - delta_limit old.width old.height))
+made_counted f old c n (Err error) new adds = tt

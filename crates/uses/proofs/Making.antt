@@ -1,11 +1,11 @@
 -- Changes that are made on a surface, and one more.
-use Rattle.std.proofs.Common.{◌≡◌, ℕ, ◌+◌, ◌-◌, List, [], ◌∷◌, ◌++◌, length, refl, sym, ap, ◌∙◌, append_assoc, length-append, arith}
-use Rattle.std.specs.Prelude.{Result, Ok, Err, fold}
+use Rattle.std.proofs.Common.{◌≡◌, ℕ, ◌+◌, List, [], ◌∷◌, ◌++◌, refl, sym, ap, ◌∙◌, append_assoc, length-append, arith}
+use Rattle.std.specs.Prelude.{Ok, Err}
 use Rattle.termwiz_surface.specs.Log.{LogValue}
 use Rattle.termwiz_surface.specs.{Adds, ChangeValue, FullScreen, Kept, Screen, SurfaceValue, appended, full_of, full_replay, full_screen, kept_of, next_number, replay, replay_kept, screen_of}
 use Rattle.termwiz_surface.specs.declared.surface.SurfaceError.{SurfaceError}
 use Rattle.termwiz_surface.specs.declared.surface.SurfaceError.TheVariants.{Memory, Numbers, ScrollRegion}
-use Rattle.uses.specs.Making.{AddsAll, AddsEach, HasMade, StopsBefore, full_after}
+use Rattle.uses.specs.Making.{AddsAll, HasMade, full_after}
 
 module _ {W : Type 0} (m : List ℕ → ℕ) (old new : SurfaceValue W) (cs : List ChangeValue) (n : ℕ) where
   pub adds_made : (k : ℕ) → Adds m old cs n (Ok k) new → AddsAll m old cs (Ok tt) new

@@ -1,9 +1,12 @@
 -- Viewers that accept answers while the surface goes on.
-use Rattle.std.proofs.Common.{◌≡◌, ℕ, List, sym, ap, ◌∙◌}
+use Rattle.std.proofs.Common.{◌≡◌, ℕ, List, inl, inr, sym, ap, ◌∙◌}
 use Rattle.std.specs.Prelude.{Result, Ok, Err, OnOk, OnErr}
 use Rattle.termwiz_surface.specs.{Follows, HasCaughtUp, NamedAreLed, NumberNamesPicture, SurfaceValue, ViewerValue, full_of, full_screens, screen_of, screens}
 use Rattle.termwiz_surface.specs.Picture.{Pictures}
+use Rattle.termwiz_share.specs.{ClientValue, SourceValue}
+use Rattle.termwiz_share.specs.declared.error.ClientError.{ClientError}
 use Rattle.uses.specs.Late.{IsServed}
+use Rattle.uses.specs.Serving.{ServesOnce}
 
 module _ {W : Type 0} (f : W → List ℕ → ℕ) where
   -- a viewer that a full surface serves follows it
@@ -33,3 +36,9 @@ module _ {W : Type 0} (f : W → List ℕ → ℕ) where
     not_ahead = follows.leads.not_ahead;
     names = record { named = λ some. absurd (some failed) };
   }
+
+-- a client that was served is served by what shows the same later
+pub served_later : {W : Type 0} (f : W → List ℕ → ℕ) (s t : SourceValue W) (old : ClientValue W) (r : Result (Unit {0}) ClientError) (new : ClientValue W) → full_of t.surface ≡ full_of s.surface → ServesOnce f s old r new → ServesOnce f t old r new
+served_later f s t old (Ok u) new same shows = shows ∙ sym same
+served_later f s t old (Err e) new same (inl none) = inl none
+served_later f s t old (Err e) new same (inr fails) = inr (fails.0, fails.1 ∙ sym same, fails.2)

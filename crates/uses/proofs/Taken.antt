@@ -1,13 +1,15 @@
 -- Answers of a stream that are taken one at a time.
-use Rattle.std.proofs.Common.{◌≡◌, ℕ, ◌+◌, ◌<◌, ◌≤◌, ◌∙◌, false, true, List, [], ◌∷◌, ◌++◌, length, length-append, append_assoc, append-nil, refl, sym, ap, subst, arith}
+use Rattle.std.proofs.Common.{◌≡◌, ◌⊎◌, inl, inr, ℕ, ◌+◌, ◌∙◌, false, true, List, [], ◌∷◌, ◌++◌, length, length-append, append_assoc, append-nil, refl, sym, ap, subst, arith}
 use Rattle.std.proofs.lemmas.Bool.{true≢false}
-use Rattle.std.specs.Prelude.{Bool, Option, Some, None, Result, Ok, fold, if◌then◌else◌, is_some, not}
+use Rattle.std.specs.Prelude.{Bool, Option, Some, None, Ok, Err, if◌then◌else◌, is_some, not}
 use Rattle.termwiz_share.specs.Client.{ClientValue, Shown, fits, shown_by}
-use Rattle.termwiz_share.specs.Histories.{Follows, FollowsNext, Given, HasMore, HasTakenFirst, after, after_all}
+use Rattle.termwiz_share.specs.Histories.{Follows, FollowsNext, Given, HasKept, HasStopped, HasTakenFirst, after, after_all}
+use Rattle.termwiz_share.specs.declared.error.ClientError.{ClientError}
+use Rattle.termwiz_share.specs.declared.error.ClientError.TheVariants as errors
 use Rattle.termwiz_share.specs.declared.taken.Taken.{Taken}
 use Rattle.termwiz_share.specs.declared.taken.Taken.TheVariants as outcomes
 use Rattle.termwiz_surface.specs.{FullScreen, full_of}
-use Rattle.uses.specs.Watching.{ShowsEach, TakesSome, pictures, stale_in}
+use Rattle.uses.specs.Watching.{ShowsEach, StopsShowing, TakesSome, pictures, stale_in}
 
 -- ---- one answer more
 
@@ -168,6 +170,65 @@ module _ {W : Type 0} (f : W → List ℕ → ℕ) (histories : ℕ → ℕ → 
         follows = so_far.has.follows;
         no_whole = n.0;
       })
+
+      -- ---- what is shown where the next one isn't taken
+
+      kept_stopped : HasKept f histories so_far.has.others mid new → HasStopped f histories sent old new
+      kept_stopped kept = record {
+        given = given;
+        others = so_far.has.others;
+        all = so_far.has.all;
+        shows = shows kept.shows;
+        named = kept.named;
+      }
+        where
+          shows : (shown_by new ≡ shown_by mid) ⊎ (new.number ≡ 0) → (shown_by new ≡ after_all (shown_by old) given) ⊎ (new.number ≡ 0)
+          shows (inl same) = inl (same ∙ so_far.has.shows)
+          shows (inr none) = inr none
+
+      stops : (e : ClientError) → (e ≡ errors.Memory) ⊎ (e ≡ errors.Numbers) → HasStopped f histories sent old new → StopsShowing f histories sent future old before e new screens
+      stops e wants stopped = record {
+        wants = wants;
+        given = given;
+        others = so_far.has.others;
+        all = so_far.has.all;
+        shown = so_far.shown;
+        stopped = stopped;
+      }
+
+      pub stops_next : (e : ClientError) → FollowsNext f histories so_far.has.others future mid (Err e) new → StopsShowing f histories sent future old before e new screens
+      stops_next errors.Memory n = stops errors.Memory (inl refl) (kept_stopped n)
+      stops_next errors.Numbers n = stops errors.Numbers (inr refl) (kept_stopped n)
+      stops_next (errors.Fault x) n = absurd n
+      stops_next (errors.Size at) n = absurd n
+
+      -- or where it is taken, and there is no memory for its screen
+      pub stops_behind : Next mid new so_far.has outcomes.Shown → StopsShowing f histories sent future old before errors.Memory new screens
+      stops_behind n =
+          let one = taken_more mid new so_far.has outcomes.Shown n in
+          stops errors.Memory (inl refl) (record {
+            given = one.has.given;
+            others = one.has.others;
+            all = one.has.all;
+            shows = inl one.has.shows;
+            named = one.has.follows.named;
+          })
+
+pub stopped_as_kept : {W : Type 0} (f : W → List ℕ → ℕ) (histories : ℕ → ℕ → FullScreen) (sent : List Given) (future : List ℕ) (old mid new : ClientValue W) (before screens : List FullScreen) (e : ClientError) → shown_by mid ≡ shown_by old → StopsShowing f histories sent future mid before e new screens → StopsShowing f histories sent future old before e new screens
+stopped_as_kept f histories sent future old mid new before screens e same all = record {
+  wants = all.wants;
+  given = all.given;
+  others = all.others;
+  all = all.all;
+  shown = subst (λ (s : Shown). screens ≡ before ++ pictures s all.given) same all.shown;
+  stopped = record {
+    given = all.stopped.given;
+    others = all.stopped.others;
+    all = all.stopped.all;
+    shows = subst (λ (s : Shown). (shown_by new ≡ after_all s all.stopped.given) ⊎ (new.number ≡ 0)) same all.stopped.shows;
+    named = all.stopped.named;
+  };
+}
 
 -- who has kept the bytes shows what it showed
 pub as_kept : {W : Type 0} (f : W → List ℕ → ℕ) (histories : ℕ → ℕ → FullScreen) (sent : List Given) (future : List ℕ) (old mid new : ClientValue W) (before screens : List FullScreen) (stale : ℕ) → shown_by mid ≡ shown_by old → ShowsEach f histories sent future mid before stale new screens → ShowsEach f histories sent future old before stale new screens

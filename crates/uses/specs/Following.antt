@@ -15,7 +15,8 @@ module _ {W : Type 0} (measure_of : W → List ℕ → ℕ) (s : SurfaceValue W)
   abbrev pub CatchesUp :
       ViewerValue W → Result (Unit {0}) SurfaceError → ViewerValue W → Type 0
   CatchesUp old result new =
-      AddsList (measure_of old.surface.widths) old.surface (answer_for s old.last) result new.surface
+      AddsList (measure_of old.surface.widths) old.surface (answer_for s old.last) result
+      new.surface
 
   -- a viewer follows the surface, or fails to
   abbrev pub FollowsOnce :

@@ -4,7 +4,8 @@ use Rattle.termwiz_surface.specs.{Adds, ChangeValue, FullScreen, IsDrawn, Makes,
 use Rattle.termwiz_surface.specs.declared.surface.SurfaceError.{SurfaceError}
 use Rattle.termwiz_surface.specs.declared.surface.SurfaceError.TheVariants.{Memory}
 
-module _ {W : Type 0} (measure : List ℕ → ℕ) (old : SurfaceValue W) (changes : List ChangeValue) where
+module _ {W : Type 0} (measure : List ℕ → ℕ) (old : SurfaceValue W)
+    (changes : List ChangeValue) where
   -- the surface makes the list, or refuses it, as its own calls do
   abbrev pub AddsAll : Result (Unit {0}) SurfaceError → SurfaceValue W → Type 0
   AddsAll (Ok u) new =

@@ -1,9 +1,13 @@
 -- A screen that three clients show, and the changes that are made on it.
-use Rattle.std.specs.Prelude.{◌≡◌, ℕ, List, ◌∷◌, ◌++◌, Result, Ok, Err}
-use Rattle.termwiz_share.specs.{ClientValue, IsReady, Serves, SourceValue}
-use Rattle.termwiz_surface.specs.{ChangeValue, FullScreen, SurfaceValue, full_of, full_replay}
+use Rattle.std.specs.Prelude.{◌≡◌, ◌⊎◌, ℕ, List, [], ◌∷◌, ◌++◌, None, Result, Ok, Err}
+use Rattle.std.specs.Result.{result_and}
+use Rattle.termwiz_share.specs.{ClientValue, Feeds, IsReady, IsResponse, Serves, SourceValue, ask_of, trimmed}
+use Rattle.termwiz_share.specs.declared.error.ClientError.{ClientError}
+use Rattle.termwiz_share.specs.declared.error.ClientError.TheVariants as client
+use Rattle.termwiz_surface.specs.{Adds, ChangeValue, FullScreen, full_of, next_number}
 use Rattle.termwiz_surface.specs.declared.surface.SurfaceError.{SurfaceError}
 use Rattle.termwiz_surface.specs.declared.surface.SurfaceError.TheVariants.{Memory, Numbers, ScrollRegion}
+use Rattle.uses.specs.Making.{HasMade}
 use Rattle.uses.specs.declared.serving.ShareError.{ShareError}
 use Rattle.uses.specs.declared.serving.ShareError.TheVariants.{Refused, Unserved}
 
@@ -38,22 +42,62 @@ Stands Numbers old new = new ≡ old
 Stands ScrollRegion old new = new ≡ old
 
 module _ {W : Type 0} (measure_of : W → List ℕ → ℕ) where
-  -- the full screen that the changes make of what a surface shows
-  abbrev pub full_after : SurfaceValue W → List ChangeValue → FullScreen
-  full_after s changes = full_replay (measure_of s.widths) (full_of s) changes
+  -- a client fails to take a source's response to its ask, and is made ready again
+  pub record FailsToTake (s : SourceValue W) (old : ClientValue W) (error : ClientError)
+      (new : ClientValue W) : Type 0 where
+    pub response : List ℕ
+    pub is_response : IsResponse measure_of s (ask_of old) response
+    pub mid : ClientValue W
+    pub fails : Feeds measure_of old response (Err error) mid
+    pub renewed : new ≡ record mid { kept = []; stopped = None }
+
+  -- a client shows the screen of the source; or there is no memory for the response, and it is as
+  -- it was; or it fails to take the response, which the source gave when it had that screen
+  abbrev pub ServesOnce :
+      SourceValue W → ClientValue W → Result (Unit {0}) ClientError → ClientValue W → Type 0
+  ServesOnce s old (Ok u) new = full_of new.surface ≡ full_of s.surface
+  ServesOnce s old (Err e) new =
+      ((e ≡ client.Memory) × (new ≡ old))
+      ⊎ ((then : SourceValue W) × (full_of then.surface ≡ full_of s.surface) ×
+      FailsToTake then old e new)
+
+  -- each client is served, or fails to be; the first error is what all come to
+  pub record ServesAll (old : RoomValue W) (result : Result (Unit {0}) ClientError)
+      (new : RoomValue W) : Type 0 where
+    pub to_first : Result (Unit {0}) ClientError
+    pub to_second : Result (Unit {0}) ClientError
+    pub to_third : Result (Unit {0}) ClientError
+    pub first : ServesOnce new.source old.first to_first new.first
+    pub second : ServesOnce new.source old.second to_second new.second
+    pub third : ServesOnce new.source old.third to_third new.third
+    pub comes_to : result ≡ result_and (result_and to_first to_second) to_third
 
   -- the changes before one are made, and that one is refused
-  pub record StopsAt (old : SurfaceValue W) (changes : List ChangeValue) (error : SurfaceError)
-      (new : SurfaceValue W) : Type 0 where
+  pub record StopsAt (old : SourceValue W) (changes : List ChangeValue) (error : SurfaceError)
+      (new : SourceValue W) : Type 0 where
     pub made : List ChangeValue
     pub refused : ChangeValue
     pub later : List ChangeValue
     pub all : changes ≡ made ++ refused ∷ later
-    pub stands : Stands error (full_after old made) (full_of new)
+    -- the source as those made it
+    pub mid : SourceValue W
+    pub has_made : HasMade measure_of old.surface made mid.surface
+    pub refuses :
+        Adds (measure_of mid.surface.widths) (trimmed mid.surface) (refused ∷ [])
+        (next_number (trimmed mid.surface).log) (Err error) new.surface
 
-  -- the changes are made on a surface, all of them or those before one that is refused
-  abbrev pub Shares : SurfaceValue W → List ChangeValue → Result (Unit {0}) ShareError
-      → SurfaceValue W → Type 0
-  Shares old changes (Ok u) new = full_of new ≡ full_after old changes
-  Shares old changes (Err (Unserved error)) new = full_of new ≡ full_after old changes
-  Shares old changes (Err (Refused error)) new = StopsAt old changes error new
+  -- the changes are made, and then each client is served
+  pub record SharesAll (old : RoomValue W) (changes : List ChangeValue)
+      (result : Result (Unit {0}) ClientError) (new : RoomValue W) : Type 0 where
+    pub made : SourceValue W
+    pub has_made : HasMade measure_of old.source.surface changes made.surface
+    pub serves : ServesAll (record old { source = made }) result new
+    pub shows : full_of new.source.surface ≡ full_of made.surface
+
+  -- or one of them is refused, and the clients are as they were
+  abbrev pub Shares : RoomValue W → List ChangeValue → Result (Unit {0}) ShareError
+      → RoomValue W → Type 0
+  Shares old changes (Ok u) new = SharesAll old changes (Ok tt) new
+  Shares old changes (Err (Unserved error)) new = SharesAll old changes (Err error) new
+  Shares old changes (Err (Refused error)) new =
+      StopsAt old.source changes error new.source × (new ≡ record old { source = new.source })

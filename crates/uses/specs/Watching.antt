@@ -1,8 +1,10 @@
 -- A viewer of a stream that takes an answer at a time.
-use Rattle.std.specs.Prelude.{◌≡◌, ℕ, ◌+◌, ◌<◌, List, [], ◌∷◌, ◌++◌, length, if◌then◌else◌}
+use Rattle.std.specs.Prelude.{◌≡◌, ◌⊎◌, ℕ, ◌+◌, ◌<◌, List, [], ◌∷◌, ◌++◌, length, if◌then◌else◌}
 use Rattle.termwiz_surface.specs.{FullScreen}
 use Rattle.termwiz_share.specs.Client.{ClientValue, Shown, fits, shown_by}
-use Rattle.termwiz_share.specs.Histories.{Follows, Given, HasMore, after, after_all}
+use Rattle.termwiz_share.specs.Histories.{Follows, Given, HasMore, HasStopped, after, after_all}
+use Rattle.termwiz_share.specs.declared.error.ClientError.{ClientError}
+use Rattle.termwiz_share.specs.declared.error.ClientError.TheVariants.{Memory, Numbers}
 
 -- what the answers that fit were given for
 abbrev pub pictures : Shown → List Given → List FullScreen
@@ -37,3 +39,13 @@ module _ {W : Type 0} (measure_of : W → List ℕ → ℕ) (histories : ℕ →
     pub counted : stale ≡ stale_in (shown_by old) given
     pub follows : Follows measure_of histories others new future
     pub no_whole : HasMore (measure_of new.surface.widths) others new.kept
+
+  -- want of memory or of numbers stops it, behind some of the answers
+  pub record StopsShowing (old : ClientValue W) (before : List FullScreen) (error : ClientError)
+      (new : ClientValue W) (screens : List FullScreen) : Type 0 where
+    pub wants : (error ≡ Memory) ⊎ (error ≡ Numbers)
+    pub given : List Given
+    pub others : List Given
+    pub all : sent ≡ given ++ others
+    pub shown : screens ≡ before ++ pictures (shown_by old) given
+    pub stopped : HasStopped measure_of histories sent old new

@@ -91,8 +91,8 @@ impl<W: Widths> Follower<W> {
 }
 
 /// Makes a change on a surface, and shows it on the follower.
-/// A change that is refused leaves what `add_change` says, and the follower as it was. After another
-/// error the change is made, and the follower may lack it, and can catch up later.
+/// A change that is refused leaves what `add_change` says, and the follower as it was. After
+/// another error the change is made, and the follower may lack it, and can catch up later.
 pub fn make_and_show<W: Widths>(
     surface: &mut Surface<W>,
     follower: &mut Follower<W>,

@@ -20,5 +20,6 @@ pub mod scrollback;
 pub mod serving;
 pub mod shaper;
 pub mod sharing;
+pub mod two_sources;
 pub mod watching;
 pub mod window;

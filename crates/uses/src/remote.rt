@@ -1,8 +1,9 @@
 //! A remote terminal, to which a session's title and its headings of double width go as its rows
 //! do.
 ghost use Rattle.std.specs.Prelude.{◌≡◌, Err, IfOk, OnOk, map, slice_index_or, true};
-ghost use Rattle.uses.specs.{DoubleWidthLine, Follows, ScrollRegion, SingleWidthLine};
-ghost use Rattle.uses.specs.{change_value, full_of, heading_changes, measure};
+ghost use Rattle.uses.specs.{AddsList, DoubleWidthLine, Follows, FollowsOnce, InTurn};
+ghost use Rattle.uses.specs.{ScrollRegion, SingleWidthLine, change_value, full_of};
+ghost use Rattle.uses.specs.{heading_changes, measure};
 
 use std::alloc::{AllocError, Global};
 use termwiz_surface::change::LineAttribute;
@@ -10,8 +11,9 @@ use termwiz_surface::{Change, Surface, SurfaceError, Viewer, Widths};
 
 /// Prints a heading on a full surface, in a row that is shown twice as wide, makes it the title
 /// too, and shows all of it on the remote terminal.
-/// After an error, which is `Numbers` or `Memory`, the session may have the heading or not, and the
-/// next call shows it as it is.
+/// After an error, which is `Numbers` or `Memory`, either the heading is refused, and the remote
+/// terminal is as it was; or the session has it, and the remote terminal may lack it. The next call
+/// shows the session as it is.
 pub fn show_heading<W: Widths>(
     alloc: Global,
     session: &mut Surface<W>,
@@ -28,6 +30,11 @@ pub fn show_heading<W: Widths>(
     ensures title { OnOk result (remote.new.surface.title ≡ heading.now) }
     ensures wide { OnOk result (let shown = full_of remote.new.surface in
         slice_index_or shown.lines shown.screen.y SingleWidthLine ≡ DoubleWidthLine) }
+    // Which of the two fails, and when.
+    ensures either { InTurn
+        (λ r. AddsList (measure W.width_of session.old.widths)
+        session.old (heading_changes heading.now) r session.new) (remote.new ≡ remote.old)
+        (λ r. FollowsOnce (measure W.width_of) session.new remote.old r remote.new) result }
     ensures no_scroll { result ≡ Err ScrollRegion → ⊥ }
     // The next call can rely on it again, after an error too.
     ensures follows { Follows (measure W.width_of) remote.new session.new }

@@ -1,7 +1,7 @@
 //! A renderer: what it does in each turn of its loop.
-ghost use Rattle.std.specs.Prelude.{◌≡◌, ◌↔◌, [], Err, IfOk, IsTrue, OnErr, OnOk};
-ghost use Rattle.uses.specs.{All, Follows, ScrollRegion, flushed, full_of, full_value, measure};
-ghost use Rattle.uses.specs.{next_number, screen_of};
+ghost use Rattle.std.specs.Prelude.{◌≡◌, ◌↔◌, [], Err, IfErr, IfOk, IsTrue, OnErr, OnOk};
+ghost use Rattle.uses.specs.{All, Follows, FollowsTo, ScrollRegion, flushed, full_of, full_value};
+ghost use Rattle.uses.specs.{measure, next_number, screen_of};
 
 use std::alloc::AllocError;
 use termwiz_surface::laws::full_equality_laws;
@@ -9,8 +9,8 @@ use termwiz_surface::{FullScreen, Surface, SurfaceError, Viewer, Widths};
 
 /// Shows on its one viewer what the surface shows, and lets both forget the changes that they have
 /// in common.
-/// After an error, which is `Numbers` or `Memory`, the surface is as before. The viewer may show
-/// anything, and the next turn that succeeds shows the screen.
+/// After an error, which is `Numbers` or `Memory`, the surface is as before, and the viewer is what
+/// that error of `Viewer::follow` leaves. The next turn that succeeds shows the screen.
 pub fn refresh<W: Widths>(
     surface: &mut Surface<W>,
     viewer: &mut Viewer<W>,
@@ -22,7 +22,9 @@ pub fn refresh<W: Widths>(
     ensures viewer_forgets { OnOk result (viewer.new.surface.log.changes ≡ []) }
     ensures unchanged { screen_of surface.new ≡ screen_of surface.old }
     ensures kept { OnErr result (surface.new ≡ surface.old) }
-    ensures no_scroll { result ≡ Err ScrollRegion → ⊥ }
+    // Which error comes when.
+    ensures fails { IfErr result (λ error.
+        FollowsTo (measure W.width_of) surface.old viewer.old (Err error) viewer.new) }
     // The next turn can rely on it again, after an error too.
     ensures follows { Follows (measure W.width_of) viewer.new surface.new }
 {

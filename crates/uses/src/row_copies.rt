@@ -73,8 +73,8 @@ pub fn refresh_rows<W: Widths>(
 /// Makes changes on a surface, and copies the rows that they changed.
 ///
 /// Where a change is refused the surface stands as `add_changes` says, and the copies are as they
-/// were. Where memory is refused for a copy the changes are made, and some rows may be copied. After
-/// either, `refresh_rows` goes on with the number that the surface had before.
+/// were. Where memory is refused for a copy the changes are made, and some rows may be copied.
+/// After either, `refresh_rows` goes on with the number that the surface had before.
 pub fn show<W: Widths>(
     surface: &mut Surface<W>,
     changes: Vec<Change>,

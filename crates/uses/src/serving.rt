@@ -1,23 +1,24 @@
 //! A screen that is shared with three clients: each asks, is answered, and shows what it is sent.
-ghost use Rattle.std.specs.Prelude.{◌≡◌, ◌<◌, ◌∷◌, [], IfErr, IfOk, OnOk, map, true};
-ghost use Rattle.uses.specs.{Adds, IsReady, IsResponse, IsSurfaceSize, KeepsClients, Serves};
-ghost use Rattle.uses.specs.{Shares, ShowsAll, Stands, ask_of, blank_surface, change_value};
-ghost use Rattle.uses.specs.{full_after, full_of, measure, next_number, trimmed};
+ghost use Rattle.std.specs.Prelude.{◌≡◌, ◌+◌, ◌<◌, ◌∷◌, [], IfErr, IfOk, OnOk, map, true};
+ghost use Rattle.uses.specs.{Adds, IsReady, IsResponse, IsSurfaceSize, KeepsClients, KeepsNames};
+ghost use Rattle.uses.specs.{Serves, ServesAll, ServesOnce, Shares, ShowsAll, Stands};
+ghost use Rattle.uses.specs.{blank_surface, change_value, full_after, full_of, measure};
+ghost use Rattle.uses.specs.{next_number, trimmed};
 
 use std::alloc::{AllocError, Global};
 use std::marker::Model;
 use termwiz_share::{Client, ClientError, Source};
 use termwiz_surface::laws::full_repaint_laws;
 use termwiz_surface::{Change, SequenceNo, SurfaceError, Widths};
-use termwiz_wire::{Limits, SourceNo};
+use termwiz_wire::{Ask, Limits, SourceNo};
 
 /// Why changes weren't all made, or not all clients show them.
 #[derive(Debug, Drop, Clone, Copy, PartialEq, Eq)]
 pub enum ShareError {
     /// A change was refused. Those before it are made, and no others. The screen is the one that
-    /// they make, or where memory was refused, any one of that size.
+    /// they make, or where memory was refused, any one of that size. The clients are as they were.
     Refused(SurfaceError),
-    /// All changes are made, but a client can't be served.
+    /// All changes are made, but a client can't be served. Each client was tried.
     Unserved(ClientError),
 }
 
@@ -28,6 +29,17 @@ impl From<SurfaceError> for ShareError {
 
     fn from(error: SurfaceError) -> ShareError {
         ShareError::Refused(error)
+    }
+}
+
+impl From<AllocError> for ShareError {
+    ghost use Rattle.termwiz_share.specs.declared.error.ClientError.TheVariants.{Memory};
+    ghost use Rattle.uses.specs.declared.serving.ShareError.TheVariants.{Unserved};
+
+    ghost from_gives = { λ _ made. made ≡ Unserved Memory };
+
+    fn from(_: AllocError) -> ShareError {
+        ShareError::Unserved(ClientError::Memory)
     }
 }
 
@@ -126,37 +138,41 @@ impl<W: Widths> Room<W> {
         ensures stands { IfErr result (λ error. Stands error
             (full_of self.old.source.surface) (full_of self.new.source.surface)) }
         ensures widths { self.new.source.surface.widths ≡ self.old.source.surface.widths }
+        ensures counted { OnOk result (next_number self.new.source.surface.log
+            ≡ next_number self.old.source.surface.log + 1) }
         ensures clients { self.new ≡ record self.old { source = self.new.source } }
     {
         make(&mut self.source, change)
     }
 
-    /// Serves each client: all of them show the screen then. After an error some may show another
-    /// one, and the next call serves them anew. The screen stays.
+    /// Serves each client: all of them show the screen then. One that can't be served is passed
+    /// over, and the first such error is returned: each other client shows the screen, and the next
+    /// call serves all of them anew. The screen stays.
     pub fn serve_all(&mut self) -> Result<(), ClientError>
         ensures shows { OnOk result (ShowsAll self.new) }
+        // Each is served, or fails to be, for a reason of its own.
+        ensures serves { ServesAll (measure W.width_of) self.old result self.new }
         ensures same { full_of self.new.source.surface ≡ full_of self.old.source.surface }
         ensures widths { self.new.source.surface.widths ≡ self.old.source.surface.widths }
     {
-        serve(self.alloc, &mut self.source, &mut self.first)?;
-        serve(self.alloc, &mut self.source, &mut self.second)?;
-        serve(self.alloc, &mut self.source, &mut self.third)
+        let first = serve(self.alloc, &mut self.source, &mut self.first);
+        let second = serve(self.alloc, &mut self.source, &mut self.second);
+        let third = serve(self.alloc, &mut self.source, &mut self.third);
+        first.and(second).and(third)
     }
 
-    /// Makes the changes in order, and serves each client after each of them: so all of them show
-    /// the screen that the changes make. A client that can't be served in between is passed over,
-    /// and the next change is served whole.
+    /// Makes the changes in order, and then serves each client: so all of them show the screen that
+    /// the changes make.
     ///
-    /// It stops at a change that is refused, and fails where a client can't be served in the end;
-    /// `ShareError` says what the screen is then. Each client can be served anew.
+    /// It stops at a change that is refused, and serves none then. `ShareError` says what stands
+    /// after each error. Each client can be served anew.
     pub fn share(&mut self, changes: Vec<Change>) -> Result<(), ShareError>
         ensures shows { OnOk result (ShowsAll self.new) }
-        ensures shares { Shares (measure W.width_of) self.old.source.surface
-            (map change_value changes.items) result self.new.source.surface }
+        ensures shares { Shares (measure W.width_of) self.old
+            (map change_value changes.items) result self.new }
     {
         for change in changes {
             self.make(change)?;
-            let _ = self.serve_all();
         }
         self.serve_all()?;
         Ok(())
@@ -173,6 +189,8 @@ fn make<W: Widths>(source: &mut Source<W>, change: Change) -> Result<SequenceNo,
     ensures stands { IfErr result (λ error.
         Stands error (full_of source.old.surface) (full_of source.new.surface)) }
     ensures widths { source.new.surface.widths ≡ source.old.surface.widths }
+    ensures counted { OnOk result (next_number source.new.surface.log
+        ≡ next_number source.old.surface.log + 1) }
     ensures others { KeepsClients (measure W.width_of) source.old source.new }
 {
     // Changes make a full screen of a full screen.
@@ -180,7 +198,9 @@ fn make<W: Widths>(source: &mut Source<W>, change: Change) -> Result<SequenceNo,
     source.add_change(change)
 }
 
-/// Lets a client ask a source, and show what it has. After an error the client can be served anew.
+/// Lets a client ask a source, and show what it has. It fails where there is no memory for the
+/// response, and the client is as it was then, or as `Client::feed` does on the response. After an
+/// error the client can be served anew.
 pub fn serve<W: Widths>(
     alloc: Global,
     source: &mut Source<W>,
@@ -189,6 +209,8 @@ pub fn serve<W: Widths>(
     requires serves { Serves (measure W.width_of) source.old client.old }
     requires ready { IsReady client.old }
     ensures shows { OnOk result (full_of client.new.surface ≡ full_of source.new.surface) }
+    // Which error comes when.
+    ensures once { ServesOnce (measure W.width_of) source.new client.old result client.new }
     ensures serves { Serves (measure W.width_of) source.new client.new }
     ensures ready { IsReady client.new }
     // The source shows what it did, and serves its other clients.
@@ -196,7 +218,7 @@ pub fn serve<W: Widths>(
     ensures widths { source.new.surface.widths ≡ source.old.surface.widths }
     ensures others { KeepsClients (measure W.width_of) source.old source.new }
 {
-    let bytes = response(alloc, source, client)?;
+    let bytes = response(alloc, source, client.ask())?;
     if let Err(error) = client.feed(&bytes) {
         client.reset();
         return Err(error);
@@ -204,19 +226,22 @@ pub fn serve<W: Widths>(
     Ok(())
 }
 
-// The bytes of the source's answer to what the client asks.
-fn response<W: Widths>(
+/// The bytes of a source's answer to an ask.
+pub(crate) fn response<W: Widths>(
     alloc: Global,
     source: &mut Source<W>,
-    client: &Client<W>,
+    ask: Ask,
 ) -> Result<Vec<u8>, AllocError>
     ensures response { IfOk result (λ bytes.
-        IsResponse (measure W.width_of) source.new (ask_of client.now) bytes.items) }
+        IsResponse (measure W.width_of) source.new ask bytes.items) }
+    ensures number { source.new.number ≡ source.old.number }
     ensures same { full_of source.new.surface ≡ full_of source.old.surface }
     ensures widths { source.new.surface.widths ≡ source.old.surface.widths }
     ensures others { KeepsClients (measure W.width_of) source.old source.new }
+    ensures remembered { KeepsNames (measure W.width_of source.old.surface.widths)
+        source.old.surface source.new.surface }
 {
     let mut bytes = Vec::new(alloc);
-    source.respond(client.ask(), &mut bytes)?;
+    source.respond(ask, &mut bytes)?;
     Ok(bytes)
 }

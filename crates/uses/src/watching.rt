@@ -1,26 +1,35 @@
 //! A viewer of a stream that takes an answer at a time: it shows each screen, or stops after some
 //! answers.
-ghost use Rattle.std.specs.Prelude.{◌≡◌, ◌∷◌, ◌++◌, ◌≤◌, [], IfOk, List, OnOk, map, ℕ};
+ghost use Rattle.std.specs.Prelude.{◌≡◌, ◌∷◌, ◌++◌, ◌≤◌, [], IfErr, IfOk, List, OnErr, OnOk};
+ghost use Rattle.std.specs.Prelude.{map, ℕ};
 ghost use Rattle.termwiz_share.specs.{Follows, Given};
-ghost use Rattle.uses.specs.{FullScreen as Picture, ShowsEach, TakesSome, full_of, full_value, measure};
+ghost use Rattle.uses.specs.{FullScreen as Picture, ShowsEach, StopsShowing, TakesSome, full_of};
+ghost use Rattle.uses.specs.{full_value, measure};
 
 use std::alloc::AllocError;
 use termwiz_share::{Client, ClientError, Taken};
 use termwiz_surface::{FullScreen, Widths};
 
 /// Feeds a client the next bytes of a stream, and adds each screen that it shows then to a list. It
-/// returns how many answers were stale.
+/// returns how many answers were stale. After an error the list has the screens so far, of which
+/// the last one may lack.
 pub fn show_each<W: Widths>(
     client: &mut Client<W>,
     piece: &[u8],
     screens: &mut Vec<FullScreen>,
 ) -> Result<usize, ClientError>
     // Of a stream that the client follows: what each answer that fits was given for.
-    ensures { (histories : ℕ → ℕ → Picture) (sent : List Given) (future : List ℕ) →
+    ensures shows { (histories : ℕ → ℕ → Picture) (sent : List Given) (future : List ℕ) →
         Follows (measure W.width_of) histories sent client.old (piece.now ++ future) →
         IfOk result (λ stale. ShowsEach (measure W.width_of) histories sent future
         client.old (map full_value screens.old.items)
         stale client.new (map full_value screens.new.items)) }
+    // It fails for want of memory or of numbers alone, and some of them are shown then.
+    ensures fails { (histories : ℕ → ℕ → Picture) (sent : List Given) (future : List ℕ) →
+        Follows (measure W.width_of) histories sent client.old (piece.now ++ future) →
+        IfErr result (λ error. StopsShowing (measure W.width_of) histories sent future
+        client.old (map full_value screens.old.items)
+        error client.new (map full_value screens.new.items)) }
 {
     client.keep(piece)?;
     let mut stale = 0;
@@ -38,8 +47,9 @@ fn add_screen<W: Widths>(
     client: &Client<W>,
     screens: &mut Vec<FullScreen>,
 ) -> Result<(), AllocError>
-    ensures { OnOk result (map full_value screens.new.items
+    ensures added { OnOk result (map full_value screens.new.items
         ≡ map full_value screens.old.items ++ full_of client.now.surface ∷ []) }
+    ensures kept { OnErr result (screens.new.items ≡ screens.old.items) }
 {
     let screen = client.surface().full_screen()?;
     screens.push(screen)?;

@@ -1,4 +1,4 @@
-use Rattle.termwiz_surface.specs.{measure, next_number}
+use Rattle.termwiz_surface.specs.{measure}
 use Rattle.uses.specs.Quiet.{settings_changes}
 use Rattle.uses.proofs.Unlogged.{color_unlogged, shown_unlogged}
 use Rattle.uses.proofs.quiet.restore_settings.Goals as goal

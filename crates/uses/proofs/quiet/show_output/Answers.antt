@@ -1,4 +1,4 @@
-use Rattle.termwiz_surface.specs.{measure, next_number}
+use Rattle.termwiz_surface.specs.{measure}
 use Rattle.uses.specs.Quiet.{output_changes}
 use Rattle.uses.proofs.Unlogged.{shown_unlogged, title_unlogged}
 use Rattle.uses.proofs.quiet.show_output.Goals as goal

@@ -1,11 +1,15 @@
-use Rattle.std.proofs.Common.{◌<◌, ℕ, Option, Ok, ap, arith, length, map, subst}
+use Rattle.std.proofs.Common.{◌≡◌, List, Option, Result, ap, arith, map, subst, sym}
+use Rattle.std.specs.Prelude.{IfErr}
 use Rattle.std.specs.Option.{is_some}
 use Rattle.termwiz_cell.specs.Measure.{measure}
 use Rattle.termwiz_share.specs.Client.{shown_by}
-use Rattle.termwiz_share.specs.Histories.{FollowsNext}
 use Rattle.termwiz_share.specs.declared.taken.Taken.{Taken}
-use Rattle.termwiz_surface.specs.{full_value}
-use Rattle.uses.proofs.Taken.{as_kept, shown_last, shown_more, shown_none, stale_one}
+use Rattle.termwiz_share.specs.declared.error.ClientError.{ClientError}
+use Rattle.termwiz_share.specs.declared.error.ClientError.TheVariants as errors
+use Rattle.termwiz_surface.specs.{FullScreen, full_value}
+use Rattle.uses.specs.Watching.{StopsShowing}
+use Rattle.uses.proofs.Returned.{returned}
+use Rattle.uses.proofs.Taken.{as_kept, shown_last, shown_more, shown_none, stale_one, stopped_as_kept, stops_behind, stops_next}
 use Rattle.uses.proofs.watching.show_each.Goals as goal
 
 pub overflow_add-stale : goal.overflow_add-stale
@@ -40,11 +44,11 @@ loop-taken-preserved-in-Continue-branch-4 g c =
           let f = measure g.W.Widths.width_of in
           let so_far = at.invariant.shown histories sent future follows in
           let next = rw (c.in-Some.is, c.in-Shown.is) at c.in_ok-taken.ensures.follows histories so_far.has.others future so_far.has.follows in
-          shown_more f histories sent future c.keep.new.self (map full_value c.args.screens.now.items) at.stale at.client c.take_answer.new.self (map full_value at.screens.items) so_far (map full_value c.add_screen.new.screens.items) next c.in_ok-add_screen-in-Shown.ensures;
+          shown_more f histories sent future c.keep.new.self (map full_value c.args.screens.now.items) at.stale at.client c.take_answer.new.self (map full_value at.screens.items) so_far (map full_value c.add_screen.new.screens.items) next c.in_ok-add_screen-in-Shown.ensures.added;
     }
 
-pub returns : goal.returns
-returns g c = λ histories sent future follows.
+pub returns-clause-shows : goal.returns-clause-shows
+returns-clause-shows g c = λ histories sent future follows.
     let f = measure g.W.Widths.width_of in
     let at = c.loop-taken in
     let kept = c.in_ok-keep.ensures in
@@ -52,3 +56,37 @@ returns g c = λ histories sent future follows.
     let next = rw c.in_default.is at c.in_ok-taken.ensures.follows histories so_far.has.others future so_far.has.follows in
     as_kept f histories sent future c.args.client.now c.keep.new.self c.take_answer.new.self (map full_value c.args.screens.now.items) (map full_value at.screens.items) at.stale (ap shown_by kept.keeps.1)
     (shown_last f histories sent future c.keep.new.self (map full_value c.args.screens.now.items) at.stale at.client c.take_answer.new.self (map full_value at.screens.items) so_far next)
+
+pub returns-in_err-taken-clause-fails : goal.returns-in_err-taken-clause-fails
+returns-in_err-taken-clause-fails g c = λ histories sent future follows.
+    let f = measure g.W.Widths.width_of in
+    let at = c.loop-taken in
+    let old = c.args.client.now in
+    let mid = c.keep.new.self in
+    let new = c.take_answer.new.self in
+    let before : List FullScreen = map full_value c.args.screens.now.items in
+    let screens : List FullScreen = map full_value at.screens.items in
+    let e = c.in_err-taken.field-0.0 in
+    let kept = c.in_ok-keep.ensures in
+    let so_far = at.invariant.shown histories sent future (kept.follows histories sent future follows) in
+    returned (λ (r : Result _ ClientError). IfErr r (λ error. StopsShowing f histories sent future old before error new screens)) e c.from_residual-in_err-taken.result c.from_residual-in_err-taken.ensures.1
+    (stopped_as_kept f histories sent future old mid new before screens e (ap shown_by kept.keeps.1)
+    (stops_next f histories sent future mid before at.stale at.client new screens so_far e (c.in_err-taken.ensures.follows histories so_far.has.others future so_far.has.follows)))
+
+pub returns-in_err-add_screen-in-Shown-clause-fails : goal.returns-in_err-add_screen-in-Shown-clause-fails
+returns-in_err-add_screen-in-Shown-clause-fails g c = λ histories sent future follows.
+    let f = measure g.W.Widths.width_of in
+    let at = c.loop-taken in
+    let old = c.args.client.now in
+    let mid = c.keep.new.self in
+    let new = c.take_answer.new.self in
+    let before : List FullScreen = map full_value c.args.screens.now.items in
+    let screens : List FullScreen = map full_value at.screens.items in
+    let kept = c.in_ok-keep.ensures in
+    let so_far = at.invariant.shown histories sent future (kept.follows histories sent future follows) in
+    let next = rw (c.in-Some.is, c.in-Shown.is) at c.in_ok-taken.ensures.follows histories so_far.has.others future so_far.has.follows in
+    let same : map full_value c.add_screen.new.screens.items ≡ screens = ap (map full_value) c.in_err-add_screen-in-Shown.ensures.kept in
+    subst (λ (l : List FullScreen). IfErr c.from_residual-in_err-add_screen-in-Shown.result (λ error. StopsShowing f histories sent future old before error new l)) (sym same)
+    (returned (λ (r : Result _ ClientError). IfErr r (λ error. StopsShowing f histories sent future old before error new screens)) errors.Memory c.from_residual-in_err-add_screen-in-Shown.result c.from_residual-in_err-add_screen-in-Shown.ensures.1
+    (stopped_as_kept f histories sent future old mid new before screens errors.Memory (ap shown_by kept.keeps.1)
+    (stops_behind f histories sent future mid before at.stale at.client new screens so_far next)))

@@ -38,7 +38,7 @@
 //!
 //! Questions, each behind `ask`:
 //!   kept                          length, number, stored cells, and flags that aren't usual
-//!   all · whole                   all readings of a recorded case, and these below the form
+//!   all                           all readings of a recorded case
 //!   stored · lent · pens · pen COLUMN             stored cells, or those lent for writing
 //!   shown · cells · visible · cell COLUMN         visible cells
 //!   alike COLUMN COLUMN · copied COLUMN CELL      visible cells that are compared
@@ -52,7 +52,7 @@
 //!
 //! A recorded case begins with `case` alone, and its lines are `> R NAME WORDS`.
 mod asks;
-mod clicks;
+mod cells;
 mod clusters;
 mod edits;
 mod makes;

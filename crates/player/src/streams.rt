@@ -2,10 +2,10 @@
 //! `case ..` leaves nothing of the case before.
 //!
 //! Bytes:
-//! - `change HEX`, `answer HEX` and `ask HEX`: the value that the bytes encode, in the diagnostic
-//!   notation of CBOR, or the fault with its place. `-` stands for no bytes. `narrow HEX` is a
-//!   change where each text has one column. A text is shown without its pieces. Where a value's
-//!   encoding differs from the bytes that it was decoded from, another line says so.
+//! - `change HEX`, `answer HEX` and `ask HEX`: the value that the bytes encode, or the fault with
+//!   its place. `-` stands for no bytes. `narrow HEX` is a change where each text has one column.
+//!   Where a value's encoding differs from the bytes that it was decoded from, another line says
+//!   so.
 //! - `head HEX`: what the answer has before its changes that the bytes begin with, and how many
 //!   changes it has, or the fault with its place. The changes need not be there.
 //! - `damaged`: how many inputs differ in one byte from those of the lines before, or are their
@@ -50,15 +50,12 @@
 //! - `pass C D`: passes on the response to client C to client D, where that one lacks it.
 //! - `show-each C`: feeds the client its whole response; answers how many answers were stale, and
 //!   how many it showed.
+mod bytes;
 mod callers;
 mod carried;
-mod damaged;
-mod decoded;
 mod edits;
 mod followed;
 mod given;
 mod scene;
-mod shown;
 pub mod stage;
-mod table;
 mod watcher;

@@ -1,220 +1,198 @@
 //! Edits of a line by the words of a line of the script.
 use crate::error::PlayError;
-use crate::lines::words::{cell, direction, hint, number, one, pen, pen_left, text, three, two};
+use crate::lines::words::{cell, pen, text};
 use crate::pens::semantic_type;
-use crate::shapes::line_attribute;
-use crate::words::{given, pair, truth};
-use std::alloc::{AllocError, Global};
+use crate::words::{given, named, pair, truth};
+use std::alloc::Global;
 use termwiz_cell::cell::{Cell, CellAttributes};
-use termwiz_cell::change::LineAttribute;
 use termwiz_cell::emoji::UnicodeWidths;
+use termwiz_line::line::bidi::{Direction, ParagraphDirectionHint};
 use termwiz_line::line::line::Line;
 use termwiz_text::split_letter_run;
 
+const DIRECTIONS: [(&str, Direction); 2] = [
+    ("left", Direction::LeftToRight),
+    ("right", Direction::RightToLeft),
+];
+
+/// The names of hints, and those that `Debug` shows.
+pub const HINTS: [(&str, ParagraphDirectionHint); 8] = [
+    ("ltr", ParagraphDirectionHint::LeftToRight),
+    ("rtl", ParagraphDirectionHint::RightToLeft),
+    ("autoltr", ParagraphDirectionHint::AutoLeftToRight),
+    ("autortl", ParagraphDirectionHint::AutoRightToLeft),
+    ("LeftToRight", ParagraphDirectionHint::LeftToRight),
+    ("RightToLeft", ParagraphDirectionHint::RightToLeft),
+    ("AutoLeftToRight", ParagraphDirectionHint::AutoLeftToRight),
+    ("AutoRightToLeft", ParagraphDirectionHint::AutoRightToLeft),
+];
+
+/// Makes an edit of this name. The last word of most edits is the number that the line is given.
 pub fn edit(alloc: Global, line: &mut Line, name: &str, words: &[&str]) -> Result<(), PlayError> {
+    match name {
+        "compress" if words.is_empty() => return Ok(line.compress_for_scrollback()?),
+        "retype" | "write" | "paint" | "reverse" => return edit_lent(alloc, line, name, words),
+        _ => {}
+    }
+    let (seqno, words) = words.split_last().ok_or(PlayError::Bad)?;
+    let seqno = given(seqno)?;
     match (name, words) {
-        ("compress", []) => done(line.compress_for_scrollback()),
-        ("retype", [kind]) => retype(line, kind),
-        ("write", [column, word]) => write(line, given(column)?, cell(alloc, word)?),
-        ("paint", [column, word]) => paint(line, given(column)?, pen(alloc, word)?),
-        ("reverse", [column]) => reverse(line, given(column)?),
-        (_, [words @ .., seqno]) => numbered(alloc, line, name, words, given(seqno)?),
-        _ => Err(PlayError::Bad),
+        ("set" | "within" | "insert" | "fill", _) => set_cells(alloc, line, name, words, seqno),
+        ("grapheme" | "overlay" | "erase-within" | "clear", _) => {
+            edit_in_pen(alloc, line, name, words, seqno)
+        }
+        ("run" | "letters" | "erase" | "remove" | "resize" | "blank-out", [column]) => {
+            edit_at(line, name, given(column)?, seqno)
+        }
+        _ => set_flags(line, name, words, seqno),
     }
 }
 
-fn done(made: Result<(), AllocError>) -> Result<(), PlayError> {
-    Ok(made?)
-}
-
-// Writes the type into each cell that the line lends.
-fn retype(line: &mut Line, name: &str) -> Result<(), PlayError> {
-    let semantic_type = semantic_type(name)?;
-    let cells: &mut [Cell] = line.cells_mut()?;
-    for cell in cells.iter_mut() {
-        cell.attrs_mut().set_semantic_type(semantic_type);
-    }
-    Ok(())
-}
-
-// Writes over a cell that the line lends, if it has one there.
-fn write(line: &mut Line, column: usize, cell: Cell) -> Result<(), PlayError> {
-    let cells: &mut [Cell] = line.cells_mut()?;
-    if let Some(lent) = cells.get_mut(column) {
-        *lent = cell;
-    }
-    Ok(())
-}
-
-fn paint(line: &mut Line, column: usize, attrs: CellAttributes) -> Result<(), PlayError> {
-    let cells: &mut [Cell] = line.cells_mut()?;
-    if let Some(lent) = cells.get_mut(column) {
-        *lent.attrs_mut() = attrs;
-    }
-    Ok(())
-}
-
-// Shows a cell in reverse that the line lends for its attributes alone, if it has one there.
-fn reverse(line: &mut Line, column: usize) -> Result<(), PlayError> {
-    let cells: &mut [Cell] = line.cells_mut_for_attr_changes_only()?;
-    if let Some(lent) = cells.get_mut(column) {
-        lent.attrs_mut().set_reverse(true);
+// Writes what the line lends: the type of each cell, or one cell or its attributes, if it has one
+// at the column.
+fn edit_lent(alloc: Global, line: &mut Line, name: &str, words: &[&str]) -> Result<(), PlayError> {
+    match (name, words) {
+        ("retype", [kind]) => {
+            let semantic_type = semantic_type(kind)?;
+            let cells: &mut [Cell] = line.cells_mut()?;
+            for cell in cells.iter_mut() {
+                cell.attrs_mut().set_semantic_type(semantic_type);
+            }
+        }
+        ("write", [column, word]) => {
+            let (column, cell) = (given(column)?, cell(alloc, word)?);
+            let cells: &mut [Cell] = line.cells_mut()?;
+            if let Some(lent) = cells.get_mut(column) {
+                *lent = cell;
+            }
+        }
+        ("paint", [column, words @ ..]) => {
+            let (column, attrs) = (given(column)?, pen(alloc, words)?);
+            let cells: &mut [Cell] = line.cells_mut()?;
+            if let Some(lent) = cells.get_mut(column) {
+                *lent.attrs_mut() = attrs;
+            }
+        }
+        ("reverse", [column]) => {
+            let column = given(column)?;
+            let cells: &mut [Cell] = line.cells_mut_for_attr_changes_only()?;
+            if let Some(lent) = cells.get_mut(column) {
+                lent.attrs_mut().set_reverse(true);
+            }
+        }
+        _ => return Err(PlayError::Bad),
     }
     Ok(())
 }
 
-// The edits that give the line a number, which is their last word.
-fn numbered(
+// The margin of an insertion is at least 1.
+fn set_cells(
     alloc: Global,
     line: &mut Line,
     name: &str,
     words: &[&str],
     seqno: usize,
 ) -> Result<(), PlayError> {
-    match name {
-        "set" => set(alloc, line, words, seqno),
-        "grapheme" => set_grapheme(alloc, line, words, seqno),
-        "within" => set_within(alloc, line, words, seqno),
-        "insert" => insert(alloc, line, words, seqno),
-        "fill" => fill(alloc, line, words, seqno),
-        "run" => done(line.set_run(number(words)?, "xy", &CellAttributes::blank(), seqno)),
-        "letters" => done(set_letters(line, number(words)?, seqno)),
-        "erase" => done(line.erase_cell(number(words)?, seqno)),
-        "remove" => done(line.remove_cell(number(words)?, seqno)),
-        "erase-within" => erase_within(alloc, line, words, seqno),
-        "resize" => done(line.resize(number(words)?, seqno)),
-        "clear" => clear(alloc, line, words, seqno),
-        "blank-out" => done(line.blank_out(number(words)?, seqno)),
-        "overlay" => overlay(alloc, line, words, seqno),
-        "mark" => done(line.set_last_cell_was_wrapped(truth(one(words)?)?, seqno)),
-        "size" => Ok(set_size(line, line_attribute(one(words)?)?, seqno)),
-        "bidi" => set_bidi(line, words, seqno),
-        "enable" => Ok(line.set_bidi_enabled(truth(one(words)?)?, seqno)),
-        "direction" => set_direction(line, words, seqno),
-        // The others stand alone.
-        _ if !words.is_empty() => Err(PlayError::Bad),
-        "prune" => done(line.prune_trailing_blanks(seqno)),
-        "take-number" => Ok(line.update_last_change_seqno(seqno)),
-        _ => Err(PlayError::Bad),
-    }
-}
-
-fn set(alloc: Global, line: &mut Line, words: &[&str], seqno: usize) -> Result<(), PlayError> {
-    let (column, word) = two(words)?;
-    let column = given(column)?;
-    let cell = cell(alloc, word)?;
-    done(line.set_cell(column, cell, seqno))
-}
-
-fn set_grapheme(
-    alloc: Global,
-    line: &mut Line,
-    words: &[&str],
-    seqno: usize,
-) -> Result<(), PlayError> {
-    let [column, word, width, rest @ ..] = words else {
-        return Err(PlayError::Bad);
+    let edited = match (name, words) {
+        ("set", [column, word]) => {
+            let (column, cell) = (given(column)?, cell(alloc, word)?);
+            line.set_cell(column, cell, seqno)
+        }
+        ("within", [column, word, width]) => {
+            let (column, width) = pair(column, width)?;
+            let cell = cell(alloc, word)?;
+            line.set_cell_within(column, cell, width, seqno)
+        }
+        ("insert", [column, word, margin]) => {
+            let (column, margin) = pair(column, margin)?;
+            if margin == 0 {
+                return Err(PlayError::Bad);
+            }
+            let cell = cell(alloc, word)?;
+            line.insert_cell(column, cell, margin, seqno)
+        }
+        ("fill", [from, to, word]) => {
+            let (from, to) = pair(from, to)?;
+            let cell = cell(alloc, word)?;
+            line.fill_range(from..to, &cell, seqno)
+        }
+        _ => return Err(PlayError::Bad),
     };
-    let (column, width) = pair(column, width)?;
-    let text = text(alloc, word)?;
-    let attrs = pen_left(alloc, rest)?;
-    done(line.set_cell_grapheme(column, text.as_str(), width.min(2), attrs, seqno))
+    Ok(edited?)
 }
 
-fn set_within(
+// The margin of an erasure is the column behind the last one, and so at least 1.
+fn edit_in_pen(
     alloc: Global,
     line: &mut Line,
+    name: &str,
     words: &[&str],
     seqno: usize,
 ) -> Result<(), PlayError> {
-    let (column, word, width) = three(words)?;
-    let (column, width) = pair(column, width)?;
-    let cell = cell(alloc, word)?;
-    done(line.set_cell_within(column, cell, width, seqno))
-}
-
-// Within a margin, which is at least 1.
-fn insert(alloc: Global, line: &mut Line, words: &[&str], seqno: usize) -> Result<(), PlayError> {
-    let (column, word, margin) = three(words)?;
-    let (column, end) = pair(column, margin)?;
-    let cell = cell(alloc, word)?;
-    if end == 0 {
-        return Err(PlayError::Bad);
-    }
-    done(line.insert_cell(column, cell, end, seqno))
-}
-
-fn fill(alloc: Global, line: &mut Line, words: &[&str], seqno: usize) -> Result<(), PlayError> {
-    let (from, to, word) = three(words)?;
-    let (from, to) = pair(from, to)?;
-    let cell = cell(alloc, word)?;
-    done(line.fill_range(from..to, &cell, seqno))
-}
-
-fn set_letters(line: &mut Line, column: usize, seqno: usize) -> Result<(), AllocError> {
-    let (letters, _) = split_letter_run("かき", 2);
-    line.set_letters(column, letters, &CellAttributes::blank(), seqno)
-}
-
-// Within a margin, which is the column behind the last one, and so at least 1.
-fn erase_within(
-    alloc: Global,
-    line: &mut Line,
-    words: &[&str],
-    seqno: usize,
-) -> Result<(), PlayError> {
-    let [column, margin, rest @ ..] = words else {
-        return Err(PlayError::Bad);
+    let edited = match (name, words) {
+        ("grapheme", [column, word, width, words @ ..]) => {
+            let (column, width) = pair(column, width)?;
+            let attrs = pen(alloc, words)?;
+            let text = text(alloc, word)?;
+            line.set_cell_grapheme(column, text.as_str(), width.min(2), attrs, seqno)
+        }
+        ("overlay", [column, word, words @ ..]) => {
+            let column = given(column)?;
+            let attrs = pen(alloc, words)?;
+            let text = text(alloc, word)?;
+            let widths = &UnicodeWidths;
+            line.overlay_text_with_attribute(column, text.as_str(), &attrs, seqno, widths)
+        }
+        ("erase-within", [column, margin, words @ ..]) => {
+            let (column, margin) = pair(column, margin)?;
+            if margin == 0 {
+                return Err(PlayError::Bad);
+            }
+            let attrs = pen(alloc, words)?;
+            line.erase_cell_with_margin(column, margin, seqno, attrs)
+        }
+        ("clear", [width, words @ ..]) => {
+            let (width, attrs) = (given(width)?, pen(alloc, words)?);
+            line.resize_and_clear(width, seqno, attrs)
+        }
+        _ => return Err(PlayError::Bad),
     };
-    let (column, end) = pair(column, margin)?;
-    let attrs = pen_left(alloc, rest)?;
-    if end == 0 {
-        return Err(PlayError::Bad);
+    Ok(edited?)
+}
+
+fn edit_at(line: &mut Line, name: &str, at: usize, seqno: usize) -> Result<(), PlayError> {
+    let edited = match name {
+        "run" => line.set_run(at, "xy", &CellAttributes::blank(), seqno),
+        "letters" => {
+            let (letters, _) = split_letter_run("かき", 2);
+            line.set_letters(at, letters, &CellAttributes::blank(), seqno)
+        }
+        "erase" => line.erase_cell(at, seqno),
+        "remove" => line.remove_cell(at, seqno),
+        "resize" => line.resize(at, seqno),
+        "blank-out" => line.blank_out(at, seqno),
+        _ => return Err(PlayError::Bad),
+    };
+    Ok(edited?)
+}
+
+fn set_flags(line: &mut Line, name: &str, words: &[&str], seqno: usize) -> Result<(), PlayError> {
+    match (name, words) {
+        ("prune", []) => line.prune_trailing_blanks(seqno)?,
+        ("take-number", []) => line.update_last_change_seqno(seqno),
+        ("mark", [wrapped]) => line.set_last_cell_was_wrapped(truth(wrapped)?, seqno)?,
+        ("size", ["single"]) => line.set_single_width(seqno),
+        ("size", ["double"]) => line.set_double_width(seqno),
+        ("size", ["top"]) => line.set_double_height_top(seqno),
+        ("size", ["bottom"]) => line.set_double_height_bottom(seqno),
+        ("bidi", [enabled, hint]) => {
+            line.set_bidi_info(truth(enabled)?, named(&HINTS, hint)?, seqno);
+        }
+        ("enable", [enabled]) => line.set_bidi_enabled(truth(enabled)?, seqno),
+        ("direction", [direction, auto]) => {
+            line.set_direction(named(&DIRECTIONS, direction)?, truth(auto)?, seqno);
+        }
+        _ => return Err(PlayError::Bad),
     }
-    done(line.erase_cell_with_margin(column, end, seqno, attrs))
-}
-
-fn clear(alloc: Global, line: &mut Line, words: &[&str], seqno: usize) -> Result<(), PlayError> {
-    let (width, word) = two(words)?;
-    let width = given(width)?;
-    let attrs = pen(alloc, word)?;
-    done(line.resize_and_clear(width, seqno, attrs))
-}
-
-fn overlay(alloc: Global, line: &mut Line, words: &[&str], seqno: usize) -> Result<(), PlayError> {
-    let (column, word, pen_word) = three(words)?;
-    let column = given(column)?;
-    let text = text(alloc, word)?;
-    overlay_text(line, column, text.as_str(), pen(alloc, pen_word)?, seqno)
-}
-
-fn overlay_text(
-    line: &mut Line,
-    column: usize,
-    text: &str,
-    attrs: CellAttributes,
-    seqno: usize,
-) -> Result<(), PlayError> {
-    done(line.overlay_text_with_attribute(column, text, &attrs, seqno, &UnicodeWidths))
-}
-
-fn set_size(line: &mut Line, size: LineAttribute, seqno: usize) {
-    match size {
-        LineAttribute::SingleWidthLine => line.set_single_width(seqno),
-        LineAttribute::DoubleWidthLine => line.set_double_width(seqno),
-        LineAttribute::DoubleHeightTopHalfLine => line.set_double_height_top(seqno),
-        LineAttribute::DoubleHeightBottomHalfLine => line.set_double_height_bottom(seqno),
-    }
-}
-
-fn set_bidi(line: &mut Line, words: &[&str], seqno: usize) -> Result<(), PlayError> {
-    let (enabled, way) = two(words)?;
-    line.set_bidi_info(truth(enabled)?, hint(way)?, seqno);
-    Ok(())
-}
-
-fn set_direction(line: &mut Line, words: &[&str], seqno: usize) -> Result<(), PlayError> {
-    let (way, auto) = two(words)?;
-    line.set_direction(direction(way)?, truth(auto)?, seqno);
     Ok(())
 }

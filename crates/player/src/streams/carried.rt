@@ -2,30 +2,14 @@
 ghost use Rattle.std.specs.Prelude.{◌≡◌, bytes_eq, [], ◌∷◌, if◌then◌else◌};
 
 use crate::error::PlayError;
-use crate::streams::given::{changes, made, size};
+use crate::streams::given::{changes, made, sent, size};
 use std::alloc::Global;
 use termwiz_cell::change::{Change, Position};
 use termwiz_cell::emoji::{OneColumn, Presentation, UnicodeVersion, UnicodeWidths, Widths};
 use termwiz_surface::surface::Surface;
-use termwiz_wire::{Limits, WireError, decode_answer, encode_answer, encoded_len};
 
 // What a viewer shows before a repaint: other text, wide and narrow, in another pen, and no cursor.
-const OTHER: [&str; 14] = [
-    "82018508f6f6f6f6",
-    "=か#",
-    "=か#",
-    "=か#",
-    "=か#",
-    "=か#",
-    "=か#",
-    "=か#",
-    "=か#",
-    "=か#",
-    "=か#",
-    "=か#",
-    "=か#",
-    "8209f4",
-];
+const OTHER: [&str; 3] = ["82018508f6f6f6f6", "=か#か#か#か#か#か#か#か#か#か#か#か#", "8209f4"];
 
 /// A single space has one column, and every other text two.
 #[derive(Clone, Copy, PartialEq, Eq, Debug)]
@@ -61,15 +45,13 @@ impl Widths for AllWide {
 
 /// How many screens are carried that changes make on blank surfaces of these sizes, with commas
 /// between them, where texts are measured as the first word says.
-pub fn carried(
-    alloc: Global,
-    measure: &str,
-    sizes: &str,
-    words: &[&str],
-) -> Result<String, PlayError> {
+pub fn carried(alloc: Global, words: &[&str], out: &mut String) -> Result<(), PlayError> {
+    let [measure, sizes, words @ ..] = words else {
+        return Err(PlayError::Bad);
+    };
     let mut count = 0usize;
     for size in sizes.split(',') {
-        let more = match measure {
+        let more = match *measure {
             "unicode" => carried_by(alloc, UnicodeWidths, size, words)?,
             "one" => carried_by(alloc, OneColumn, size, words)?,
             "wide" => carried_by(alloc, AllWide, size, words)?,
@@ -77,7 +59,7 @@ pub fn carried(
         };
         count = count.wrapping_add(more);
     }
-    Ok(format!(in alloc; "{count} screens")?)
+    Ok(write!(out, "{count} screens")?)
 }
 
 // The screen that changes make, or where the first of them is `columns` that with each column of
@@ -111,26 +93,11 @@ fn carry<W: Widths>(alloc: Global, surface: &Surface<W>) -> Result<(), PlayError
     let (width, height) = surface.dimensions();
     let mut viewer = Surface::new(alloc, width, height, surface.widths())?;
     made(viewer.add_changes(changes(alloc, &OTHER)?))?;
-    made(viewer.add_changes(received(alloc, surface)?))?;
+    let repaint = sent(alloc, &surface.widths(), &surface.answer(0)?)?;
+    made(viewer.add_changes(repaint.into_changes()))?;
     if viewer.screen()? == surface.screen()? {
         Ok(())
     } else {
         Err(PlayError::Differs)
-    }
-}
-
-// The changes of a repaint, once they were as many bytes as they are counted to be.
-fn received<W: Widths>(alloc: Global, surface: &Surface<W>) -> Result<Vec<Change>, PlayError> {
-    let widths = surface.widths();
-    let mut bytes = Vec::new(alloc);
-    let repaint = surface.answer(0)?;
-    encode_answer(&mut bytes, &widths, 1, &repaint)?;
-    if encoded_len(&widths, 1, &repaint) != bytes.len() {
-        return Err(PlayError::Differs);
-    }
-    match decode_answer(alloc, &widths, Limits::default(), bytes.as_slice()) {
-        Ok((sent, _)) => Ok(sent.answer.into_changes()),
-        Err(WireError::Memory) => Err(PlayError::Memory),
-        Err(WireError::Fault(_)) => Err(PlayError::Differs),
     }
 }

@@ -1,11 +1,11 @@
 //! Damaged bytes that a client is fed.
 use crate::error::PlayError;
-use crate::streams::damaged::Trial;
+use crate::streams::given::decoded;
 use std::alloc::Global;
 use termwiz_cell::emoji::UnicodeWidths;
 use termwiz_share::{Client, ClientError, Source};
 use termwiz_surface::FullScreen;
-use termwiz_wire::{Ask, FaultKind, Limits, SentAnswer, WireError, decode_answer};
+use termwiz_wire::{Ask, FaultKind, Limits, WireError, decode_answer};
 
 /// A source, and a client that shows what the source showed before its last changes.
 ///
@@ -27,115 +27,69 @@ impl Followed {
     /// A source that made the changes of the repaint, and then those of the delta. It has to give
     /// that delta to whoever has the repaint.
     pub fn new(alloc: Global, repaint: Vec<u8>, delta: &[u8]) -> Result<Followed, PlayError> {
-        let SentAnswer { source, answer } = sent(alloc, repaint.as_slice())?;
-        if source == 0 {
+        let (widths, limits) = (UnicodeWidths, Limits::default());
+        let first = decoded(decode_answer(alloc, &widths, limits, repaint.as_slice()))?;
+        let more = decoded(decode_answer(alloc, &widths, limits, delta))?.answer;
+        if first.source == 0 {
             return Err(PlayError::Bad);
         }
         let ask = Ask {
-            source,
-            number: answer.number(),
+            source: first.source,
+            number: first.answer.number(),
         };
-        let (width, height) = answer.size();
-        let mut source = Source::new(alloc, source, width, height, UnicodeWidths)?;
-        holds(source.add_changes(answer.into_changes()).is_ok())?;
+        let (width, height) = first.answer.size();
+        let mut source = Source::new(alloc, first.source, width, height, widths)?;
+        let begins = source.add_changes(first.answer.into_changes()).is_ok();
         let before = source.surface().full_screen()?;
-        let more = sent(alloc, delta)?;
-        holds(source.add_changes(more.answer.into_changes()).is_ok())?;
+        let goes_on = source.add_changes(more.into_changes()).is_ok();
         let after = source.surface().full_screen()?;
-        gives(alloc, &mut source, ask, delta)?;
+        let mut response = Vec::new(alloc);
+        source.respond(ask, &mut response)?;
+        if !begins || !goes_on || response.as_slice() != delta {
+            return Err(PlayError::Differs);
+        }
         Ok(Followed {
             alloc,
             source,
-            client: Client::new(alloc, UnicodeWidths, Limits::default())?,
+            client: Client::new(alloc, widths, limits)?,
             repaint,
             before,
             after,
         })
     }
 
-    // Lets the client show what the source showed.
-    fn go_back(&mut self) -> Result<(), PlayError> {
-        holds(self.client.feed(self.repaint.as_slice()).is_ok())?;
-        self.shows(&self.before)
-    }
-
-    // Feeds the client these bytes in two pieces, and returns whether it may have taken an answer.
-    fn feed(&mut self, bytes: &[u8]) -> Result<bool, PlayError> {
+    /// Feeds the client bytes, and fails unless it meets them so.
+    pub fn meet(&mut self, bytes: &[u8]) -> Result<(), PlayError> {
+        let begins = self.client.feed(self.repaint.as_slice()).is_ok();
+        let begins = begins && self.client.surface().full_screen()? == self.before;
         let (first, rest) = bytes.split_at(bytes.len() / 2);
         // What fails at the first piece fails alike at the other.
         let _ = self.client.feed(first);
         let fed = self.client.feed(rest);
-        match decode_answer(self.alloc, &UnicodeWidths, Limits::default(), bytes) {
-            Ok(_) => Ok(true),
-            Err(WireError::Memory) => Err(PlayError::Memory),
-            Err(WireError::Fault(fault)) => {
-                let wanted = match fault.kind {
-                    FaultKind::Truncated => Ok(0),
-                    _ => Err(ClientError::Fault(fault)),
-                };
-                self.shows(&self.before)?;
-                holds(fed == wanted)?;
-                Ok(false)
-            }
-        }
-    }
-
-    // Lets the client show what the source shows, on a new connection.
-    fn go_on(&mut self, is_taken: bool) -> Result<(), PlayError> {
+        let stays = self.client.surface().full_screen()? == self.before;
         self.client.reset();
-        let ask = if is_taken {
-            Ask {
-                source: 0,
-                number: 0,
+        let mut ask = self.client.ask();
+        let stands = match decode_answer(self.alloc, &UnicodeWidths, Limits::default(), bytes) {
+            Ok(_) => {
+                ask = Ask {
+                    source: 0,
+                    number: 0,
+                };
+                true
             }
-        } else {
-            self.client.ask()
+            Err(WireError::Memory) => return Err(PlayError::Memory),
+            Err(WireError::Fault(fault)) => match fault.kind {
+                FaultKind::Truncated => stays && fed == Ok(0),
+                _ => stays && fed == Err(ClientError::Fault(fault)),
+            },
         };
         let mut response = Vec::new(self.alloc);
         self.source.respond(ask, &mut response)?;
-        holds(self.client.feed(response.as_slice()).is_ok())?;
-        self.shows(&self.after)
-    }
-
-    // Fails where the client shows anything else.
-    fn shows(&self, wanted: &FullScreen) -> Result<(), PlayError> {
-        holds(self.client.surface().full_screen()? == *wanted)
-    }
-}
-
-impl Trial for Followed {
-    fn meet(&mut self, bytes: &[u8]) -> Result<(), PlayError> {
-        self.go_back()?;
-        let is_taken = self.feed(bytes)?;
-        self.go_on(is_taken)
-    }
-}
-
-// The answer that the bytes encode.
-fn sent(alloc: Global, bytes: &[u8]) -> Result<SentAnswer, PlayError> {
-    match decode_answer(alloc, &UnicodeWidths, Limits::default(), bytes) {
-        Ok((sent, _)) => Ok(sent),
-        Err(_) => Err(PlayError::Bad),
-    }
-}
-
-// Fails where the source gives other bytes for the ask.
-fn gives(
-    alloc: Global,
-    source: &mut Source<UnicodeWidths>,
-    ask: Ask,
-    bytes: &[u8],
-) -> Result<(), PlayError> {
-    let mut response = Vec::new(alloc);
-    source.respond(ask, &mut response)?;
-    holds(response.as_slice() == bytes)
-}
-
-// Fails where this isn't so.
-fn holds(is_so: bool) -> Result<(), PlayError> {
-    if is_so {
-        Ok(())
-    } else {
-        Err(PlayError::Differs)
+        let goes_on = self.client.feed(response.as_slice()).is_ok();
+        if begins && stands && goes_on && self.client.surface().full_screen()? == self.after {
+            Ok(())
+        } else {
+            Err(PlayError::Differs)
+        }
     }
 }

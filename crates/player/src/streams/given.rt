@@ -4,13 +4,12 @@ ghost use Rattle.std.specs.Prelude.{◌<◌, ◌^◌, IfOk};
 use crate::error::PlayError;
 use crate::escapes::unescaped;
 use crate::hex::bytes_of;
-use crate::streams::shown::changes_text;
 use crate::words::pair;
 use std::alloc::Global;
 use termwiz_cell::change::Change;
-use termwiz_cell::emoji::UnicodeWidths;
-use termwiz_surface::surface::{Surface, SurfaceError};
-use termwiz_wire::{WireError, decode_change};
+use termwiz_cell::emoji::{UnicodeWidths, Widths};
+use termwiz_surface::surface::{Answer, Surface, SurfaceError};
+use termwiz_wire::{Limits, WireError, decode_answer, decode_change, encode_answer, encoded_len};
 
 // The most columns of a surface, and its most rows.
 const MOST: usize = u32::MAX as usize;
@@ -31,24 +30,17 @@ pub fn size(word: &str) -> Result<(usize, usize), PlayError>
     }
 }
 
-/// The change of a word: `=` and a text, or the bytes that encode it.
-pub fn change(alloc: Global, word: &str) -> Result<Change, PlayError> {
-    if let Some(text) = word.strip_prefix('=') {
-        return Ok(Change::Text(unescaped(alloc, text, ' ')?));
-    }
-    let bytes = bytes_of(alloc, word)?;
-    match decode_change(alloc, &UnicodeWidths, bytes.as_slice()) {
-        Ok((change, _)) => Ok(change),
-        Err(WireError::Memory) => Err(PlayError::Memory),
-        Err(WireError::Fault(_)) => Err(PlayError::Bad),
-    }
-}
-
-/// The changes of some words.
+/// The changes of some words: `=` and a text, or the bytes that encode a change.
 pub fn changes(alloc: Global, words: &[&str]) -> Result<Vec<Change>, PlayError> {
     let mut changes = Vec::new(alloc);
     for word in words {
-        changes.push(change(alloc, word)?)?;
+        changes.push(match word.strip_prefix('=') {
+            Some(text) => Change::Text(unescaped(alloc, text, ' ')?),
+            None => {
+                let bytes = bytes_of(alloc, word)?;
+                decoded(decode_change(alloc, &UnicodeWidths, bytes.as_slice()))?
+            }
+        })?;
     }
     Ok(changes)
 }
@@ -62,40 +54,57 @@ pub fn made<T: Drop>(made: Result<T, SurfaceError>) -> Result<T, PlayError> {
     }
 }
 
-/// Why the play of a call ends that was refused memory: what stands is as it has to be, or not.
-pub fn refused<T>(stands: bool) -> Result<T, PlayError> {
-    if stands {
-        Err(PlayError::Memory)
-    } else {
-        Err(PlayError::Differs)
+/// The value that a call decoded, unless memory was refused to it.
+pub fn decoded<T: Drop>(decoded: Result<(T, usize), WireError>) -> Result<T, PlayError> {
+    match decoded {
+        Ok((value, _)) => Ok(value),
+        Err(WireError::Memory) => Err(PlayError::Memory),
+        Err(WireError::Fault(_)) => Err(PlayError::Bad),
     }
 }
 
-/// A surface of this size after some changes.
-pub fn painted(alloc: Global, size_word: &str, words: &[&str]) -> Result<Shown, PlayError> {
+/// An answer that was encoded, as as many bytes as it is counted to have, and decoded.
+pub fn sent<W: Widths>(alloc: Global, widths: &W, answer: &Answer) -> Result<Answer, PlayError> {
+    let mut bytes = Vec::new(alloc);
+    encode_answer(&mut bytes, widths, 1, answer)?;
+    if encoded_len(widths, 1, answer) != bytes.len() {
+        return Err(PlayError::Differs);
+    }
+    let limits = Limits::default();
+    let sent = decoded(decode_answer(alloc, widths, limits, bytes.as_slice()))?;
+    Ok(sent.answer)
+}
+
+/// A surface of this size, or a full one, after some changes.
+pub fn painted(
+    alloc: Global,
+    size_word: &str,
+    is_full: bool,
+    words: &[&str],
+) -> Result<Shown, PlayError> {
     let (width, height) = size(size_word)?;
-    let mut surface = Surface::new(alloc, width, height, UnicodeWidths)?;
+    let mut surface = if is_full {
+        Surface::new_full(alloc, width, height, UnicodeWidths)?
+    } else {
+        Surface::new(alloc, width, height, UnicodeWidths)?
+    };
     made(surface.add_changes(changes(alloc, words)?))?;
     Ok(surface)
 }
 
 /// The rows of a surface, and its cursor.
-pub fn rows(alloc: Global, surface: &Shown) -> Result<String, PlayError> {
+pub fn rows(surface: &Shown, out: &mut String) -> Result<(), PlayError> {
     let shown = surface.screen_chars_to_string()?;
-    let mut rows = String::new(alloc);
     for row in shown.lines() {
-        writeln!(rows, "|{row}|")?;
+        writeln!(out, "|{row}|")?;
     }
     let (x, y) = surface.cursor_position();
-    writeln!(rows, "cursor {x} {y}")?;
-    Ok(rows)
+    Ok(writeln!(out, "cursor {x} {y}")?)
 }
 
 /// The rows of a surface, its cursor, and the changes that make its whole screen.
-pub fn screen(alloc: Global, surface: &Shown) -> Result<String, PlayError> {
-    let mut lines = rows(alloc, surface)?;
+pub fn screen(surface: &Shown, out: &mut String) -> Result<(), PlayError> {
+    rows(surface, out)?;
     let repaint = surface.answer(0)?;
-    let changes = changes_text(alloc, repaint.changes())?;
-    writeln!(lines, "{changes}")?;
-    Ok(lines)
+    Ok(writeln!(out, "{:?}", repaint.changes())?)
 }

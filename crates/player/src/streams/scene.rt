@@ -1,12 +1,11 @@
 //! A surface, and a viewer that accepts its answers.
 use crate::error::PlayError;
-use crate::streams::given::{Shown, made, refused};
+use crate::streams::edits::edit;
+use crate::streams::given::{Shown, changes, made, sent};
+use crate::words::given;
 use std::alloc::Global;
-use termwiz_cell::change::{Change, SequenceNo};
 use termwiz_cell::emoji::UnicodeWidths;
-use termwiz_surface::surface::Answer;
 use termwiz_surface::view::{AcceptError, Viewer};
-use termwiz_wire::{Limits, WireError, decode_answer, encode_answer};
 
 /// A surface and its viewer.
 #[derive(Drop)]
@@ -17,52 +16,48 @@ pub struct Scene {
 }
 
 impl Scene {
-    /// Makes the changes as one list, or none where memory is refused.
-    pub fn put(&mut self, changes: Vec<Change>) -> Result<(), PlayError> {
-        let mut changed = self.surface.clone()?;
-        made(changed.add_changes(changes))?;
-        self.surface = changed;
-        Ok(())
+    /// Makes changes as one list, or none where memory is refused, or lets a caller make some; or
+    /// says which answer is due to a number, or delivers the one to the viewer's number.
+    pub fn play(&mut self, what: &str, words: &[&str], out: &mut String) -> Result<(), PlayError> {
+        let words = words.get(1..).unwrap_or(&[]);
+        match what {
+            "put" => {
+                let mut changed = self.surface.clone()?;
+                made(changed.add_changes(changes(self.alloc, words)?))?;
+                self.surface = changed;
+                Ok(())
+            }
+            "on" => edit(self.alloc, &mut self.surface, words, out),
+            "due" => {
+                let number = given(words.first().copied().unwrap_or(""))?;
+                let answer = self.surface.answer(number)?;
+                let (base, number) = (answer.base(), answer.number());
+                let count = answer.changes().len();
+                Ok(write!(out, "from {base} to {number}, changes: {count}")?)
+            }
+            _ => self.deliver(what == "send", out),
+        }
     }
 
-    /// The viewer accepts the answer to its number, which it is given as it is or as bytes.
-    pub fn deliver(&mut self, is_sent: bool) -> Result<SequenceNo, PlayError> {
-        let answer = self.surface.answer(self.viewer.last())?;
+    // The number of the answer that the viewer accepts, as it is or as bytes, and whether it shows
+    // the same then: of a full surface all that is kept beside the screen too.
+    fn deliver(&mut self, is_sent: bool, out: &mut String) -> Result<(), PlayError> {
+        let mut answer = self.surface.answer(self.viewer.last())?;
         if is_sent {
-            let received = sent(self.alloc, &answer)?;
-            self.accept(&received)
-        } else {
-            self.accept(&answer)
+            answer = sent(self.alloc, &UnicodeWidths, &answer)?;
         }
-    }
-
-    // A viewer that finds no memory has no number.
-    fn accept(&mut self, answer: &Answer) -> Result<SequenceNo, PlayError> {
-        match self.viewer.accept(answer) {
-            Ok(number) if number == answer.number() && self.viewer.last() == number => Ok(number),
-            Err(AcceptError::Memory) => refused(self.viewer.last() == 0),
-            _ => Err(PlayError::Differs),
+        let number = answer.number();
+        match self.viewer.accept(&answer) {
+            Ok(accepted) if accepted == number && self.viewer.last() == number => {}
+            // A viewer that finds no memory has no number.
+            Err(AcceptError::Memory) if self.viewer.last() == 0 => return Err(PlayError::Memory),
+            _ => return Err(PlayError::Differs),
         }
-    }
-
-    /// Whether the viewer shows what the surface shows, and of a full surface all that is kept
-    /// beside the screen.
-    pub fn shows_same(&self) -> Result<bool, PlayError> {
-        if self.surface.is_full() {
-            Ok(self.surface.full_screen()? == self.viewer.surface().full_screen()?)
-        } else {
-            Ok(self.surface.screen()? == self.viewer.surface().screen()?)
-        }
-    }
-}
-
-// An answer that was encoded and decoded.
-fn sent(alloc: Global, answer: &Answer) -> Result<Answer, PlayError> {
-    let mut bytes = Vec::new(alloc);
-    encode_answer(&mut bytes, &UnicodeWidths, 1, answer)?;
-    match decode_answer(alloc, &UnicodeWidths, Limits::default(), bytes.as_slice()) {
-        Ok((sent, _)) => Ok(sent.answer),
-        Err(WireError::Memory) => Err(PlayError::Memory),
-        Err(WireError::Fault(_)) => Err(PlayError::Differs),
+        let (surface, viewed) = (&self.surface, self.viewer.surface());
+        let is_same = match surface.is_full() {
+            true => surface.full_screen()? == viewed.full_screen()?,
+            false => surface.screen()? == viewed.screen()?,
+        };
+        Ok(write!(out, "number {number}, shows the same: {is_same}")?)
     }
 }

@@ -1,177 +1,202 @@
-//! Lines of bytes, and their answers.
+//! Lines of bytes, and of surfaces, sources and clients, and their answers.
 use crate::error::PlayError;
 use crate::hex::bytes_of;
 use crate::play::Play;
-use crate::streams::damaged::count_damaged;
-use crate::streams::decoded::{Decoder, Kind};
+use crate::streams::bytes::{Kind, Trial, decode};
+use crate::streams::callers::called;
+use crate::streams::carried::carried;
 use crate::streams::followed::Followed;
-use crate::streams::shown::{answer_text, change_text};
-use crate::streams::table::Table;
+use crate::streams::given::{changes, made, painted, screen, size};
+use crate::streams::scene::Scene;
+use crate::streams::watcher::{Watcher, push_returned};
+use crate::words::{given, named};
 use std::alloc::Global;
-use termwiz_cell::emoji::{OneColumn, UnicodeWidths, Widths};
-use termwiz_wire::{
-    Limits, WireError, decode_answer, decode_ask, decode_change, decode_head, encode_answer,
-    encode_ask, encode_change,
-};
+use termwiz_cell::emoji::{OneColumn, UnicodeWidths};
+use termwiz_share::{Client, Source};
+use termwiz_surface::view::Viewer;
+use termwiz_wire::Limits;
+use uses::passing::pass_on;
 
-/// What decodes the bytes of lines.
+const KINDS: [(&str, Kind); 5] = [
+    ("change", Kind::Change),
+    ("narrow", Kind::Change),
+    ("answer", Kind::Answer),
+    ("head", Kind::Head),
+    ("ask", Kind::Ask),
+];
+
+// What is printed of a call that took answers, which may not be refused memory after that.
+const SHORT: usize = 64;
+
+/// Answers the lines, and keeps what a case has.
 #[derive(Drop)]
 pub struct Stage {
     alloc: Global,
     // How many inputs were made of the lines by damaging their bytes.
     damaged: usize,
-    table: Table,
-}
-
-impl Stage {
-    pub fn new(alloc: Global) -> Stage {
-        Stage {
-            alloc,
-            damaged: 0,
-            table: Table::new(alloc),
-        }
-    }
-
-    // What the words of a line do with what a case has.
-    fn play(&mut self, line: &str) -> Result<String, PlayError> {
-        let words: Vec<&str> = line.split(' ').collect(self.alloc)?;
-        self.table.play(words.as_slice())
-    }
-
-    // How many damaged inputs there were so far. Each ended as it has to, or the play had ended.
-    fn count(&self) -> Result<String, PlayError> {
-        Ok(format!(in self.alloc; "{} inputs\n", self.damaged)?)
-    }
-
-    // What the bytes of a line encode.
-    fn decoded(&mut self, kind: Kind, word: &str) -> Result<String, PlayError> {
-        let bytes = bytes_of(self.alloc, word)?;
-        let bytes = bytes.as_slice();
-        let mut lines = String::new(self.alloc);
-        match kind {
-            Kind::Change => self.change(&UnicodeWidths, bytes, &mut lines)?,
-            Kind::Answer => self.answer(bytes, &mut lines)?,
-            Kind::Ask => self.ask(bytes, &mut lines)?,
-        }
-        self.damage(kind, bytes)?;
-        Ok(lines)
-    }
-
-    // The change that the bytes of a line encode where each text has one column.
-    fn narrow(&self, word: &str) -> Result<String, PlayError> {
-        let bytes = bytes_of(self.alloc, word)?;
-        let mut lines = String::new(self.alloc);
-        self.change(&OneColumn, bytes.as_slice(), &mut lines)?;
-        Ok(lines)
-    }
-
-    fn damage(&mut self, kind: Kind, bytes: &[u8]) -> Result<(), PlayError> {
-        let mut decoder = Decoder {
-            alloc: self.alloc,
-            kind,
-        };
-        let count = count_damaged(self.alloc, &mut decoder, bytes)?;
-        self.damaged = self.damaged.wrapping_add(count);
-        Ok(())
-    }
-
-    fn change<W: Widths>(
-        &self,
-        widths: &W,
-        bytes: &[u8],
-        lines: &mut String,
-    ) -> Result<(), PlayError> {
-        match decode_change(self.alloc, widths, bytes) {
-            Ok((change, taken)) => {
-                push(lines, change_text(self.alloc, &change)?.as_str())?;
-                let mut again = Vec::new(self.alloc);
-                encode_change(&mut again, widths, &change)?;
-                compare(again.as_slice(), bytes, taken, lines)
-            }
-            Err(error) => self.fault(error, lines),
-        }
-    }
-
-    fn answer(&self, bytes: &[u8], lines: &mut String) -> Result<(), PlayError> {
-        let limits = Limits::default();
-        match decode_answer(self.alloc, &UnicodeWidths, limits, bytes) {
-            Ok((sent, taken)) => {
-                push(lines, answer_text(self.alloc, &sent)?.as_str())?;
-                let mut again = Vec::new(self.alloc);
-                encode_answer(&mut again, &UnicodeWidths, sent.source, &sent.answer)?;
-                compare(again.as_slice(), bytes, taken, lines)
-            }
-            Err(error) => self.fault(error, lines),
-        }
-    }
-
-    fn ask(&self, bytes: &[u8], lines: &mut String) -> Result<(), PlayError> {
-        match decode_ask(bytes) {
-            Ok((ask, taken)) => {
-                let text = format!(in self.alloc; "[2, {}, {}]", ask.source, ask.number)?;
-                push(lines, text.as_str())?;
-                let mut again = Vec::new(self.alloc);
-                encode_ask(&mut again, ask)?;
-                compare(again.as_slice(), bytes, taken, lines)
-            }
-            Err(error) => self.fault(error, lines),
-        }
-    }
-
-    // What the answer says at its head that the bytes of a line begin with.
-    fn head(&self, word: &str) -> Result<String, PlayError> {
-        let bytes = bytes_of(self.alloc, word)?;
-        match decode_head(Limits::default(), bytes.as_slice()) {
-            Ok(head) => Ok(format!(in self.alloc;
-                "[2, {}, {}, {}, {}, {}], {} changes\n",
-                head.source, head.width, head.height, head.base, head.number, head.count
-            )?),
-            Err(fault) => Ok(format!(in self.alloc; "{fault}\n")?),
-        }
-    }
-
-    // How many inputs there are of a repaint and of a delta. A client met each as it has to.
-    fn followed(&self, words: &str) -> Result<String, PlayError> {
-        let (repaint, delta) = words.split_once(' ').ok_or(PlayError::Bad)?;
-        let repaint = bytes_of(self.alloc, repaint)?;
-        let delta = bytes_of(self.alloc, delta)?;
-        let mut followed = Followed::new(self.alloc, repaint.clone()?, delta.as_slice())?;
-        let repaints = count_damaged(self.alloc, &mut followed, repaint.as_slice())?;
-        let deltas = count_damaged(self.alloc, &mut followed, delta.as_slice())?;
-        Ok(format!(in self.alloc; "{} inputs\n", repaints.wrapping_add(deltas))?)
-    }
-
-    fn fault(&self, error: WireError, lines: &mut String) -> Result<(), PlayError> {
-        push(lines, format!(in self.alloc; "{error}")?.as_str())
-    }
+    scenes: Vec<Scene>,
+    sources: Vec<Source<UnicodeWidths>>,
+    watchers: Vec<Watcher>,
 }
 
 impl Play for Stage {
     fn line(&mut self, line: &str) -> Result<String, PlayError> {
-        let (kind, word) = line.split_once(' ').unwrap_or((line, ""));
-        match kind {
-            "damaged" => self.count(),
-            "client" if !word.is_empty() => self.followed(word),
-            "change" => self.decoded(Kind::Change, word),
-            "narrow" => self.narrow(word),
-            "answer" => self.decoded(Kind::Answer, word),
-            "ask" => self.decoded(Kind::Ask, word),
-            "head" => self.head(word),
-            _ => self.play(line),
+        let mut out = String::with_capacity(self.alloc, SHORT)?;
+        let words: Vec<&str> = line.split(' ').collect(self.alloc)?;
+        self.play(words.as_slice(), &mut out)?;
+        Ok(out)
+    }
+}
+
+impl Stage {
+    /// Nothing is made yet, and no bytes are damaged.
+    pub fn new(alloc: Global) -> Stage {
+        Stage {
+            alloc,
+            damaged: 0,
+            scenes: Vec::new(alloc),
+            sources: Vec::new(alloc),
+            watchers: Vec::new(alloc),
         }
     }
-}
 
-fn push(lines: &mut String, line: &str) -> Result<(), PlayError> {
-    lines.push_str(line)?;
-    lines.push('\n')?;
-    Ok(())
-}
-
-// Says where a value's bytes aren't those that it was decoded from.
-fn compare(again: &[u8], bytes: &[u8], taken: usize, lines: &mut String) -> Result<(), PlayError> {
-    if again.len() == taken && bytes.starts_with(again) {
-        return Ok(());
+    fn play(&mut self, words: &[&str], out: &mut String) -> Result<(), PlayError> {
+        let alloc = self.alloc;
+        let [what, words @ ..] = words else {
+            return Err(PlayError::Bad);
+        };
+        let number = words.first().copied().unwrap_or("");
+        match *what {
+            "case" => {
+                self.scenes = Vec::new(alloc);
+                self.sources = Vec::new(alloc);
+                self.watchers = Vec::new(alloc);
+                Ok(())
+            }
+            // Each damaged input ended as it has to, or the play had ended.
+            "damaged" => Ok(writeln!(out, "{} inputs", self.damaged)?),
+            "change" | "narrow" | "answer" | "head" | "ask" => self.value(what, number, out),
+            "client" if !words.is_empty() => followed(alloc, words, out),
+            "surface" | "full" | "source" | "client" => self.make(what, words),
+            "add" | "respond" | "pass" | "follows" | "served" => self.share(what, words, out),
+            "shown" => screen(&at(&mut self.scenes, number)?.surface, out),
+            "source-shown" => screen(at(&mut self.sources, number)?.surface(), out),
+            "put" | "due" | "deliver" | "send" | "on" => {
+                at(&mut self.scenes, number)?.play(what, words, out)
+            }
+            "carried" => carried(alloc, words, out),
+            "call" => called(alloc, words, out),
+            _ => at(&mut self.watchers, number)?.play(what, words, out),
+        }
     }
-    push(lines, "its encoding differs")
+
+    // The value that the bytes of a word encode, where each text has one column with `narrow`.
+    fn value(&mut self, what: &str, word: &str, out: &mut String) -> Result<(), PlayError> {
+        let (alloc, kind) = (self.alloc, named(&KINDS, what)?);
+        let bytes = bytes_of(alloc, word)?;
+        let bytes = bytes.as_slice();
+        let stands = match what {
+            "narrow" => decode(alloc, &OneColumn, kind, bytes, true, out)?,
+            _ => decode(alloc, &UnicodeWidths, kind, bytes, true, out)?,
+        };
+        if !stands {
+            out.push_str("its encoding differs\n")?;
+        }
+        if what != "narrow" && what != "head" {
+            let count = Trial::Decoded(kind).count(alloc, bytes)?;
+            self.damaged = self.damaged.wrapping_add(count);
+        }
+        Ok(())
+    }
+
+    fn make(&mut self, what: &str, words: &[&str]) -> Result<(), PlayError> {
+        let alloc = self.alloc;
+        match words {
+            [] => {
+                let client = Client::new(alloc, UnicodeWidths, Limits::default())?;
+                self.watchers.push(Watcher {
+                    alloc,
+                    ask: client.ask(),
+                    client,
+                    response: Vec::new(alloc),
+                    given: 0,
+                })?;
+            }
+            [size] => {
+                let surface = painted(alloc, size, what == "full", &[])?;
+                let viewer = Viewer::new(alloc, &surface)?;
+                self.scenes.push(Scene {
+                    alloc,
+                    surface,
+                    viewer,
+                })?;
+            }
+            [number, word] => {
+                let (number, (width, height)) = (given(number)?, size(word)?);
+                if number == 0 {
+                    return Err(PlayError::Bad);
+                }
+                let source = Source::new(alloc, number, width, height, UnicodeWidths)?;
+                self.sources.push(source)?;
+            }
+            _ => return Err(PlayError::Bad),
+        }
+        Ok(())
+    }
+
+    // What sources and clients do with others.
+    fn share(&mut self, what: &str, words: &[&str], out: &mut String) -> Result<(), PlayError> {
+        let alloc = self.alloc;
+        let [one, other, ..] = words else {
+            return Err(PlayError::Bad);
+        };
+        match what {
+            "add" => {
+                let changes = changes(alloc, words.get(1..).unwrap_or(&[]))?;
+                made(at(&mut self.sources, one)?.add_changes(changes))?;
+            }
+            "respond" => {
+                let source = at(&mut self.sources, one)?;
+                at(&mut self.watchers, other)?.receive(source)?;
+            }
+            "pass" => {
+                let response = at(&mut self.watchers, one)?.response.clone()?;
+                let client = &mut at(&mut self.watchers, other)?.client;
+                push_returned(pass_on(client, response.as_slice()), out)?;
+            }
+            _ => {
+                let watcher = at(&mut self.watchers, one)?;
+                let source = at(&mut self.sources, other)?;
+                if what == "served" {
+                    watcher.ask()?;
+                    watcher.receive(source)?;
+                    let _ = watcher.give("feed", "all")?;
+                }
+                // A client may lose its number where memory is refused.
+                let shown = watcher.client.surface().full_screen()?;
+                let is_lost = watcher.client.number() == 0;
+                let follows = is_lost || shown == source.surface().full_screen()?;
+                write!(out, "{follows}")?;
+            }
+        }
+        Ok(())
+    }
+}
+
+// The one of this number.
+fn at<'a, T>(list: &'a mut Vec<T>, number: &str) -> Result<&'a mut T, PlayError> {
+    list.get_mut(given(number)?).ok_or(PlayError::Bad)
+}
+
+// How many inputs there are of a repaint and of a delta. A client met each as it has to.
+fn followed(alloc: Global, words: &[&str], out: &mut String) -> Result<(), PlayError> {
+    let [repaint, delta] = words else {
+        return Err(PlayError::Bad);
+    };
+    let (repaint, delta) = (bytes_of(alloc, repaint)?, bytes_of(alloc, delta)?);
+    let followed = Followed::new(alloc, repaint.clone()?, delta.as_slice())?;
+    let mut trial = Trial::Fed(followed);
+    let repaints = trial.count(alloc, repaint.as_slice())?;
+    let deltas = trial.count(alloc, delta.as_slice())?;
+    Ok(writeln!(out, "{} inputs", repaints.wrapping_add(deltas))?)
 }

@@ -1,13 +1,13 @@
 //! A client, and the response to its ask.
 use crate::error::PlayError;
-use crate::streams::given::refused;
+use crate::streams::given::screen;
 use crate::words::given;
-use std::alloc::{AllocError, Global};
+use std::alloc::Global;
+use std::fmt::Debug;
 use termwiz_cell::emoji::UnicodeWidths;
 use termwiz_share::{Client, ClientError, Source};
-use termwiz_surface::surface::FullScreen;
-use termwiz_wire::{Ask, Limits, decode_ask};
-use uses::watching::take_some;
+use termwiz_wire::{Ask, decode_ask};
+use uses::watching::{show_each, take_some};
 
 // What buffers have before a call appends to them.
 const BEFORE: [u8; 8] = [246; 8];
@@ -15,7 +15,7 @@ const BEFORE: [u8; 8] = [246; 8];
 /// A client, what it asked last, the response, and how many bytes of that it was given.
 #[derive(Drop)]
 pub struct Watcher {
-    alloc: Global,
+    pub alloc: Global,
     pub client: Client<UnicodeWidths>,
     pub ask: Ask,
     pub response: Vec<u8>,
@@ -23,29 +23,64 @@ pub struct Watcher {
 }
 
 impl Watcher {
-    pub fn new(alloc: Global) -> Result<Watcher, PlayError> {
-        let client = Client::new(alloc, UnicodeWidths, Limits::default())?;
-        let ask = client.ask();
-        Ok(Watcher {
-            alloc,
-            client,
-            ask,
-            response: Vec::new(alloc),
-            given: 0,
-        })
+    /// Asks, takes the response or a part of it, or says what the client has.
+    pub fn play(&mut self, what: &str, words: &[&str], out: &mut String) -> Result<(), PlayError> {
+        match what {
+            "asks" => self.ask(),
+            "client-shown" => screen(self.client.surface(), out),
+            "number" => {
+                let (source, number) = (self.client.source(), self.client.number());
+                let bytes = self.response.len();
+                Ok(write!(out, "source {source}, number {number}, {bytes} bytes")?)
+            }
+            "show-each" => {
+                let mut screens = Vec::new(self.alloc);
+                let response = self.response.as_slice();
+                push_returned(show_each(&mut self.client, response, &mut screens), out)?;
+                Ok(write!(out, " stale, {} shown", screens.len())?)
+            }
+            "feed" | "keep" | "take" => {
+                let part = words.get(1).copied().unwrap_or("all");
+                push_returned(self.give(what, part)?, out)
+            }
+            _ => Err(PlayError::Bad),
+        }
     }
 
     /// Asks, by bytes that say what it asks.
-    pub fn asks(&mut self) -> Result<(), PlayError> {
-        let mut bytes = buffer(self.alloc)?;
-        if self.client.encode_ask(&mut bytes).is_err() {
-            return refused(bytes.starts_with(&BEFORE));
+    pub fn ask(&mut self) -> Result<(), PlayError> {
+        let mut bytes = Vec::from_array(self.alloc, BEFORE)?;
+        let is_refused = self.client.encode_ask(&mut bytes).is_err();
+        let appended = bytes.strip_prefix(&BEFORE).ok_or(PlayError::Differs)?;
+        if is_refused {
+            return Err(PlayError::Memory);
         }
         self.ask = self.client.ask();
-        match decode_ask(appended(bytes.as_slice())) {
+        match decode_ask(appended) {
             Ok((ask, _)) if ask == self.ask => Ok(()),
             _ => Err(PlayError::Differs),
         }
+    }
+
+    /// Has the response of a source to what the client asked. Where memory is refused, the source
+    /// shows what it showed, and has the number that it had, and as many changes.
+    pub fn receive(&mut self, source: &mut Source<UnicodeWidths>) -> Result<(), PlayError> {
+        let shown = source.surface().full_screen()?;
+        let due = due_from_first(source)?;
+        let mut bytes = Vec::from_array(self.alloc, BEFORE)?;
+        let is_refused = source.respond(self.ask, &mut bytes).is_err();
+        let appended = bytes.strip_prefix(&BEFORE).ok_or(PlayError::Differs)?;
+        if is_refused {
+            if due_from_first(source)? != due || source.surface().full_screen()? != shown {
+                return Err(PlayError::Differs);
+            }
+            return Err(PlayError::Memory);
+        }
+        let mut response = Vec::new(self.alloc);
+        response.extend_from_slice(appended)?;
+        self.response = response;
+        self.given = 0;
+        Ok(())
     }
 
     /// Feeds the client the rest of the response, or with `half` what comes before its middle, or
@@ -57,83 +92,51 @@ impl Watcher {
             _ => self.response.len(),
         };
         let piece = self.response.get(self.given..end).ok_or(PlayError::Bad)?;
-        let given = match how {
+        let taken = match how {
             "feed" => self.client.feed(piece),
-            "keep" => kept(self.client.keep(piece)),
+            // No answers are taken of bytes that are kept.
+            "keep" => self.client.keep(piece).map(|()| 0),
             _ => take_some(&mut self.client, given(part)?),
         };
         if how != "take" {
             self.given = end;
         }
-        match given {
-            Err(ClientError::Memory) => self.met_refusal(&before),
-            given => Ok(given),
+        if taken != Err(ClientError::Memory) {
+            return Ok(taken);
         }
-    }
-
-    // Sees that the client stands as it has to where memory was refused, and makes it ready for the
-    // same call.
-    fn met_refusal<T>(&mut self, before: &FullScreen) -> Result<T, PlayError> {
-        let shows_before = self.client.surface().full_screen()? == *before;
+        // The client stands as it has to, and is made ready for the same call.
+        let mut stands = self.client.surface().full_screen()? == before;
         if self.client.stopped().is_some() {
             // The bytes are lost.
-            let fails = self.client.feed(&[]) == Err(ClientError::Memory);
+            stands = stands && self.client.feed(&[]) == Err(ClientError::Memory);
             self.client.reset();
             self.given = 0;
-            return refused(shows_before && fails);
+        } else {
+            // The bytes of the answer are kept.
+            stands = stands || self.client.number() == 0;
         }
-        // The bytes of the answer are kept.
-        refused(shows_before || self.client.number() == 0)
-    }
-
-    /// Whether the client shows what the source shows, or lost its number when memory was refused.
-    pub fn follows(&self, source: &Source<UnicodeWidths>) -> Result<bool, PlayError> {
-        let shown = self.client.surface().full_screen()?;
-        Ok(self.client.number() == 0 || shown == source.surface().full_screen()?)
+        match stands {
+            true => Err(PlayError::Memory),
+            false => Err(PlayError::Differs),
+        }
     }
 }
 
-// No answers are taken of bytes that are kept.
-fn kept(kept: Result<(), ClientError>) -> Result<usize, ClientError> {
-    match kept {
-        Ok(()) => Ok(0),
-        Err(error) => Err(error),
+/// Adds what a call returned, unless memory was refused to it.
+pub fn push_returned<T: Debug + Drop>(
+    returned: Result<T, ClientError>,
+    out: &mut String,
+) -> Result<(), PlayError> {
+    match returned {
+        Ok(value) => write!(out, "{value:?}")?,
+        Err(ClientError::Memory) => return Err(PlayError::Memory),
+        Err(error) => write!(out, "refused: {error}")?,
     }
+    Ok(())
 }
 
-/// The response of a source to what a client asks. Where memory is refused, the source shows what
-/// it showed, and has the number that it had, and as many changes.
-pub fn response(
-    alloc: Global,
-    source: &mut Source<UnicodeWidths>,
-    ask: Ask,
-) -> Result<Vec<u8>, PlayError> {
-    let before = due(source)?;
-    let shown = source.surface().full_screen()?;
-    let mut bytes = buffer(alloc)?;
-    if source.respond(ask, &mut bytes).is_err() {
-        let shows_before = source.surface().full_screen()? == shown;
-        let has_due = due(source)? == before;
-        return refused(bytes.starts_with(&BEFORE) && shows_before && has_due);
-    }
-    let mut response = Vec::new(alloc);
-    response.extend_from_slice(appended(bytes.as_slice()))?;
-    Ok(response)
-}
-
-// The number of a source's screen, and how many changes are due from the first one on.
-fn due(source: &Source<UnicodeWidths>) -> Result<(usize, usize), AllocError> {
+// The number of a source, and how many changes are due from the first one on.
+fn due_from_first(source: &Source<UnicodeWidths>) -> Result<(usize, usize), PlayError> {
     let (number, changes) = source.surface().get_changes(1)?;
     Ok((number, changes.len()))
-}
-
-fn buffer(alloc: Global) -> Result<Vec<u8>, AllocError> {
-    let mut bytes = Vec::new(alloc);
-    bytes.extend_from_slice(&BEFORE)?;
-    Ok(bytes)
-}
-
-// What a call has appended.
-fn appended(bytes: &[u8]) -> &[u8] {
-    bytes.get(BEFORE.len()..).unwrap_or(&[])
 }

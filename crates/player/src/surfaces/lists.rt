@@ -12,46 +12,35 @@ use termwiz_surface::surface::{LentChange, Surface, SurfaceError};
 pub fn make_list(
     alloc: Global,
     surface: &mut Surface<Measure>,
-    list: Vec<Change>,
+    list: &Vec<Change>,
     logged: bool,
     scrollback: &mut Option<Scrollback>,
 ) -> Result<Result<SequenceNo, SurfaceError>, PlayError> {
-    if !logged {
-        let lent = lent(alloc, list.as_slice())?;
-        return Ok(make_unlogged(surface, lent.as_slice(), scrollback));
+    if logged {
+        let list = list.clone()?;
+        return Ok(match scrollback {
+            Some(scrollback) => surface.add_changes_scrolling(list, scrollback),
+            None => surface.add_changes(list),
+        });
     }
-    match scrollback {
-        Some(scrollback) => Ok(surface.add_changes_scrolling(list, scrollback)),
-        None => Ok(surface.add_changes(list)),
-    }
-}
-
-fn make_unlogged(
-    surface: &mut Surface<Measure>,
-    list: &[LentChange<'_>],
-    scrollback: &mut Option<Scrollback>,
-) -> Result<SequenceNo, SurfaceError> {
-    match scrollback {
-        Some(scrollback) => surface.add_unlogged_scrolling(list, scrollback),
-        None => surface.add_unlogged(list),
-    }
+    let lent = lent(alloc, list.as_slice())?;
+    Ok(match scrollback {
+        Some(scrollback) => surface.add_unlogged_scrolling(lent.as_slice(), scrollback),
+        None => surface.add_unlogged(lent.as_slice()),
+    })
 }
 
 // The changes with texts and titles that are lent.
 fn lent(alloc: Global, list: &[Change]) -> Result<Vec<LentChange<'_>>, PlayError> {
     let mut lent = Vec::new(alloc);
     for change in list {
-        lent.push(lent_change(change)?)?;
+        lent.push(match change {
+            Change::Text(text) => LentChange::Text(text.as_str()),
+            Change::Title(title) => LentChange::Title(title.as_str()),
+            other => LentChange::Owned(other.clone()?),
+        })?;
     }
     Ok(lent)
-}
-
-fn lent_change(change: &Change) -> Result<LentChange<'_>, PlayError> {
-    match change {
-        Change::Text(text) => Ok(LentChange::Text(text.as_str())),
-        Change::Title(title) => Ok(LentChange::Title(title.as_str())),
-        other => Ok(LentChange::Owned(other.clone()?)),
-    }
 }
 
 /// A scrollback of blank lines of these widths.
@@ -62,14 +51,4 @@ pub fn blank_lines(alloc: Global, widths: &[&str]) -> Result<Scrollback, PlayErr
         scrollback.lines.push_back(line)?;
     }
     Ok(scrollback)
-}
-
-/// The text and the columns of each line that is kept.
-pub fn kept_lines(alloc: Global, scrollback: &Scrollback) -> Result<String, PlayError> {
-    let mut lines = String::new(alloc);
-    for line in &scrollback.lines {
-        let (text, columns) = (line.as_str()?, line.len());
-        writeln!(lines, "|{text}| {columns} columns")?;
-    }
-    Ok(lines)
 }

@@ -14,16 +14,12 @@ pub enum Measure {
     Wide,
 }
 
-impl Measure {
-    pub fn from_word(word: &str) -> Option<Measure> {
-        match word {
-            "unicode" => Some(Measure::Unicode),
-            "one" => Some(Measure::One),
-            "wide" => Some(Measure::Wide),
-            _ => None,
-        }
-    }
-}
+/// The names of measures.
+pub const MEASURES: [(&str, Measure); 3] = [
+    ("unicode", Measure::Unicode),
+    ("one", Measure::One),
+    ("wide", Measure::Wide),
+];
 
 impl Widths for Measure {
     ghost use Rattle.std.specs.Prelude.{None};

@@ -2,19 +2,20 @@
 use crate::error::PlayError;
 use crate::escapes::unescaped;
 use crate::play::Play;
-use crate::surfaces::answers;
+use crate::surfaces::answers::{answer, is_same, push_changes, push_made, push_refused};
 use crate::surfaces::changes::change;
-use crate::surfaces::lists::{blank_lines, kept_lines, make_list};
+use crate::surfaces::lists::{blank_lines, make_list};
 use crate::surfaces::measure::Measure;
-use crate::surfaces::refusals::refused;
-use crate::surfaces::runs::{event, outcomes};
-use crate::surfaces::sequences::{Sequence, sequence_refusals};
-use crate::surfaces::sizes::{measured_size, size};
-use crate::surfaces::tables::{diffs, prints, regions};
+use crate::surfaces::refusals::is_left;
+use crate::surfaces::runs::run;
+use crate::surfaces::sequences::Sequence;
+use crate::surfaces::sizes::{checked_size, measured_size, region};
+use crate::surfaces::tables::{diffs, regions};
 use crate::words::{given, pair};
 use std::alloc::Global;
-use std::mem;
-use termwiz_cell::change::{Change, SequenceNo};
+use termwiz_cell::cell::{Cell, CellAttributes};
+use termwiz_cell::change::{Change, SequenceError, SequenceNo};
+use termwiz_cell::emoji::UnicodeWidths;
 use termwiz_surface::Scrollback;
 use termwiz_surface::surface::{Surface, SurfaceError};
 use termwiz_surface::view::{Event, Viewer};
@@ -46,17 +47,15 @@ pub struct Stage {
 
 impl Play for Stage {
     fn line(&mut self, line: &str) -> Result<String, PlayError> {
-        if line.starts_with("case ") {
-            *self = Stage::new(self.alloc);
-            return self.silent();
-        }
-        if let Some(words) = line.strip_prefix("event ") {
-            return self.add_event(words);
-        }
+        let mut out = String::new(self.alloc);
         match change(self.alloc, line)? {
-            Some(change) => self.add(change),
-            None => self.command(line),
+            Some(change) => self.add(change, &mut out)?,
+            None => {
+                let words: Vec<&str> = line.split(' ').collect(self.alloc)?;
+                self.command(words.as_slice(), &mut out)?;
+            }
         }
+        Ok(out)
     }
 }
 
@@ -75,99 +74,142 @@ impl Stage {
         }
     }
 
-    // What each command does that is no change.
-    fn command(&mut self, line: &str) -> Result<String, PlayError> {
-        let words: Vec<&str> = line.split(' ').collect(self.alloc)?;
-        match words.as_slice() {
-            ["new", size @ ..] => self.make(size),
-            ["new-full", size @ ..] => self.make_full(size),
-            ["clone"] => self.make_clone(),
-            ["on", number] => self.turn_to(Shown::Surface(given(number)?)),
-            ["viewer"] => self.make_viewer(),
-            ["view", number] => self.turn_to(Shown::Viewer(given(number)?)),
-            ["sequence", size @ ..] => self.make_sequence(size),
-            ["list"] => self.begin_list(),
-            ["end"] => self.end_list(true),
-            ["unlogged"] => self.end_list(false),
-            ["repeat", count, text] => self.repeat(count, text),
-            ["keep", widths @ ..] => self.keep_lines(widths),
-            ["newest", count] => self.keep_newest(count),
-            ["resize", width, height] => self.resize(width, height),
-            ["flush", seq] => self.flush(seq),
-            ["draw", number, x, y] => self.draw(number, x, y),
-            ["copy", place @ ..] => self.copy(place, false),
-            ["draw-region", place @ ..] => self.copy(place, true),
-            ["lead", number, seq] => self.lead(number, seq),
-            ["follow", number] => self.follow(given(number)?),
-            ["goto", x, y] => self.goto(x, y),
-            ["consume"] => self.consume(),
-            ["run", size @ ..] => self.run(size, false),
-            ["run-full", size @ ..] => self.run(size, true),
-            words => self.ask(words),
-        }
-    }
-
-    // What each command answers that changes nothing.
-    fn ask(&self, words: &[&str]) -> Result<String, PlayError> {
-        let alloc = self.alloc;
+    // Changes what a case has, and what its lines are about.
+    fn command(&mut self, words: &[&str], out: &mut String) -> Result<(), PlayError> {
         match words {
-            ["rows"] => answers::rows(alloc, self.own()?),
-            ["number"] => answers::number(alloc, self.own()?),
-            ["kept"] => answers::kept(alloc, self.own()?),
-            ["screen"] => answers::screen(alloc, self.own()?),
-            ["flags"] => answers::flags(alloc, self.own()?),
-            ["cells"] => answers::cells(alloc, self.own()?),
-            ["full"] => answers::full(alloc, self.own()?),
-            ["full-same", number] => answers::full_same(alloc, self.own()?, self.other(number)?),
-            ["has", seq] => answers::has(alloc, self.own()?, seq),
-            ["ask", seq] => answers::answer(alloc, self.own()?, seq),
-            ["answer", seq] => answers::carried(alloc, self.own()?, seq),
-            ["changed", seq] => answers::changed(alloc, self.own()?, seq),
-            ["lines"] => self.lines(),
-            ["same", number] => answers::same(alloc, self.own()?, self.other(number)?),
-            ["diff", number] => answers::diff(alloc, self.own()?, self.other(number)?),
-            ["diff-region", place @ .., number, x, y] => self.region_diff(
-                place,
-                number,
-                pair(x, y)?,
-            ),
-            ["diffs"] => diffs(alloc, self.surfaces.as_slice()),
-            ["diff-regions", number, width, height] => {
-                regions(
-                    alloc,
-                    self.own()?,
-                    self.other(number)?,
-                    pair(width, height)?,
-                )
+            ["case", ..] => *self = Stage::new(self.alloc),
+            ["new", size @ ..] => self.make(size, false)?,
+            ["new-full", size @ ..] => self.make(size, true)?,
+            ["clone"] => {
+                let clone = self.own()?.clone()?;
+                self.surfaces.push(clone)?;
             }
-            ["prints", text] => {
-                let text = unescaped(alloc, text, ' ')?;
-                prints(alloc, self.own()?, text.as_str())
+            ["viewer"] => {
+                let viewer = Viewer::new(self.alloc, self.own()?)?;
+                write!(out, "last {}", viewer.last())?;
+                self.viewers.push(viewer)?;
             }
-            ["diff-line", row, text] => answers::line_diff(alloc, self.own()?, row, text),
-            ["diff-lines", texts @ ..] => answers::lines_diff(alloc, self.own()?, texts),
-            ["place"] => self.place(),
-            ["cell", words @ ..] => answers::cell(alloc, words),
-            ["refusals"] => answers::refusals(alloc),
-            ["sequence-refusals"] => sequence_refusals(alloc),
-            _ => Err(PlayError::Bad),
+            ["on", number] => self.shown = Shown::Surface(given(number)?),
+            ["view", number] => self.shown = Shown::Viewer(given(number)?),
+            ["sequence", size @ ..] => {
+                self.sequence = Some(Sequence::new(self.alloc, measured_size(size)?)?);
+            }
+            ["list"] => self.list = Some(Vec::new(self.alloc)),
+            ["keep", widths @ ..] => self.scrollback = Some(blank_lines(self.alloc, widths)?),
+            ["event", words @ ..] => {
+                let event = self.event(words)?;
+                self.events.push(event)?;
+            }
+            _ => self.call(words, out)?,
+        }
+        Ok(())
+    }
+
+    // Changes a surface, a viewer or a sequence.
+    fn call(&mut self, words: &[&str], out: &mut String) -> Result<(), PlayError> {
+        match words {
+            ["end"] => self.end_list(true, out),
+            ["unlogged"] => self.end_list(false, out),
+            ["repeat", count, text] => self.repeat(given(count)?, text, out),
+            ["newest", count] => {
+                let count = given(count)?;
+                let scrollback = self.scrollback.as_mut().ok_or(PlayError::Bad)?;
+                scrollback.remove_first(scrollback.len().saturating_sub(count));
+                Ok(())
+            }
+            ["resize", width, height] => {
+                let (width, height) = pair(width, height)?;
+                let (width, height) = checked_size(width, height)?;
+                let made = self.own_mut()?.resize(width, height);
+                push_refused(made, SurfaceError::Memory, out)
+            }
+            ["flush", seq] => {
+                let seq = given(seq)?;
+                self.own_mut()?.flush_changes_older_than(seq);
+                Ok(())
+            }
+            ["draw", ..] | ["copy", ..] | ["draw-region", ..] => self.draw(words, out),
+            ["lead", number, seq] => self.lead(given(number)?, given(seq)?, out),
+            ["follow", number] => self.follow(given(number)?, out),
+            ["goto", ..] | ["place"] => {
+                let sequence = self.sequence.as_mut().ok_or(PlayError::Bad)?;
+                sequence.answer(words, out)
+            }
+            ["consume"] => {
+                if let Some(sequence) = self.sequence.take() {
+                    self.consumed = sequence.changes.consume();
+                }
+                push_changes(self.consumed.as_slice(), out)
+            }
+            ["run", size @ ..] => run(self.alloc, size, false, &mut self.events, out),
+            ["run-full", size @ ..] => run(self.alloc, size, true, &mut self.events, out),
+            _ => self.ask(words, out),
         }
     }
 
-    // No answer.
-    fn silent(&self) -> Result<String, PlayError> {
-        Ok(String::new(self.alloc))
+    // Answers a question, and changes nothing.
+    fn ask(&self, words: &[&str], out: &mut String) -> Result<(), PlayError> {
+        match words {
+            ["same", number] => {
+                let same = is_same(self.own()?, self.other(number)?, false)?;
+                write!(out, "{same}")?;
+            }
+            ["full-same", number] => {
+                let same = is_same(self.own()?, self.other(number)?, true)?;
+                write!(out, "{same}")?;
+            }
+            ["diff", number] => {
+                let changes = self.own()?.diff_screens(self.other(number)?)?;
+                push_changes(changes.as_slice(), out)?;
+            }
+            ["diff-region", place @ .., number, x, y] => {
+                let ((from, size), (x, y)) = (region(place)?, pair(x, y)?);
+                let (own, other) = (self.own()?, self.other(number)?);
+                let changes = own.diff_region(from.0, from.1, size.0, size.1, other, x, y)?;
+                push_changes(changes.as_slice(), out)?;
+            }
+            ["diffs"] => diffs(self.surfaces.as_slice(), out)?,
+            ["diff-regions", number, width, height] => {
+                regions(self.own()?, self.other(number)?, pair(width, height)?, out)?;
+            }
+            ["lines"] => {
+                let scrollback = self.scrollback.as_ref().ok_or(PlayError::Bad)?;
+                for line in &scrollback.lines {
+                    writeln!(out, "|{}| {} columns", line.as_str()?, line.len())?;
+                }
+            }
+            ["refusals"] => {
+                for error in [
+                    SurfaceError::ScrollRegion,
+                    SurfaceError::Numbers,
+                    SurfaceError::Memory,
+                ] {
+                    writeln!(out, "{error}")?;
+                }
+            }
+            ["sequence-refusals"] => {
+                for error in [SequenceError::Range, SequenceError::Memory] {
+                    writeln!(out, "{error}")?;
+                }
+            }
+            ["cell", texts @ ..] => {
+                let text = unescaped(self.alloc, texts.first().unwrap_or(&""), ' ')?;
+                let pen = CellAttributes::blank();
+                let cell = Cell::new_grapheme(
+                    self.alloc,
+                    &UnicodeWidths,
+                    text.as_str(),
+                    pen,
+                    None,
+                )?;
+                write!(out, "{:?}, {} columns", cell.str(), cell.width())?;
+            }
+            _ => answer(self.alloc, self.own()?, words, out)?,
+        }
+        Ok(())
     }
 
-    fn region_diff(
-        &self,
-        place: &[&str],
-        number: &str,
-        corner: (usize, usize),
-    ) -> Result<String, PlayError> {
-        answers::region_diff(self.alloc, self.own()?, place, self.other(number)?, corner)
-    }
-
+    // The surface that the lines are about, or that of the viewer.
     fn own(&self) -> Result<&Surface<Measure>, PlayError> {
         match self.shown {
             Shown::Surface(number) => self.surfaces.get(number).ok_or(PlayError::Bad),
@@ -189,17 +231,52 @@ impl Stage {
         self.surfaces.get(given(word)?).ok_or(PlayError::Bad)
     }
 
-    fn add(&mut self, change: Change) -> Result<String, PlayError> {
+    // A new surface, which the coming lines are about.
+    fn make(&mut self, size: &[&str], full: bool) -> Result<(), PlayError> {
+        let (width, height, measure) = measured_size(size)?;
+        let surface = if full {
+            Surface::new_full(self.alloc, width, height, measure)?
+        } else {
+            Surface::new(self.alloc, width, height, measure)?
+        };
+        let number = self.surfaces.len();
+        self.surfaces.push(surface)?;
+        self.shown = Shown::Surface(number);
+        Ok(())
+    }
+
+    fn event(&mut self, words: &[&str]) -> Result<Event<Measure>, PlayError> {
+        match words {
+            ["end"] => Ok(Event::Changes(self.list.take().ok_or(PlayError::Bad)?)),
+            ["draw", number, x, y] => {
+                let (x, y) = pair(x, y)?;
+                Ok(Event::Draw(self.other(number)?.clone()?, x, y))
+            }
+            ["copy", place @ .., x, y] => {
+                let ((from, size), (x, y)) = (region(place)?, pair(x, y)?);
+                Ok(Event::Copy(from.0, from.1, size.0, size.1, x, y))
+            }
+            ["resize", width, height] => Ok(Event::Resize(given(width)?, given(height)?)),
+            ["flush", seq] => Ok(Event::Flush(given(seq)?)),
+            ["ask", seq] => Ok(Event::Ask(given(seq)?)),
+            ["follow"] => Ok(Event::Follow),
+            ["rows"] => Ok(Event::Show),
+            _ => Err(PlayError::Bad),
+        }
+    }
+
+    // Adds a change to the list, to the sequence or to the surface.
+    fn add(&mut self, change: Change, out: &mut String) -> Result<(), PlayError> {
         if let Some(list) = &mut self.list {
-            list.push(change)?;
-            return self.silent();
+            return Ok(list.push(change)?);
         }
         if let Some(sequence) = &mut self.sequence {
-            return sequence.add(change);
+            let made = sequence.changes.add(change);
+            return push_refused(made, SequenceError::Memory, out);
         }
         let mut next = self.own()?.clone()?;
         let made = next.add_change(change);
-        self.put(next, made, false)
+        self.put(next, made, false, out)
     }
 
     // The surface is the next one from now on, on which a list of changes was made, that of a draw
@@ -209,271 +286,102 @@ impl Stage {
         next: Surface<Measure>,
         made: Result<SequenceNo, SurfaceError>,
         copied: bool,
-    ) -> Result<String, PlayError> {
-        if matches!(&made, Err(SurfaceError::Memory)) {
-            return Err(refused(self.alloc, self.own()?, &next, copied));
+        out: &mut String,
+    ) -> Result<(), PlayError> {
+        let refused = matches!(&made, Err(SurfaceError::Memory));
+        if refused && !is_left(self.alloc, self.own()?, &next, copied)? {
+            return Err(PlayError::Differs);
         }
-        let answer = answers::made(self.alloc, made)?;
+        push_made(made, out)?;
         *self.own_mut()? = next;
-        Ok(answer)
+        Ok(())
     }
 
-    fn begin_list(&mut self) -> Result<String, PlayError> {
-        self.list = Some(Vec::new(self.alloc));
-        self.silent()
-    }
-
-    // A copy of the list's changes, which stays until they are made.
-    fn listed(&self) -> Result<Vec<Change>, PlayError> {
-        match &self.list {
-            Some(list) => Ok(list.clone()?),
-            None => Err(PlayError::Bad),
+    // Makes the changes of the list, which stays until they are made. Where they aren't, the lines
+    // that they scrolled off a surface go.
+    fn end_list(&mut self, logged: bool, out: &mut String) -> Result<(), PlayError> {
+        let list = self.list.as_ref().ok_or(PlayError::Bad)?.clone()?;
+        if let Some(sequence) = &mut self.sequence {
+            sequence.add_changes(self.alloc, list, out)?;
+            self.list = None;
+            return Ok(());
         }
-    }
-
-    fn end_list(&mut self, logged: bool) -> Result<String, PlayError> {
-        let list = self.listed()?;
-        let answer = match &mut self.sequence {
-            Some(sequence) => sequence.add_changes(list),
-            None => self.add_list(list, logged),
-        }?;
-        self.list = None;
-        Ok(answer)
-    }
-
-    fn add_list(&mut self, list: Vec<Change>, logged: bool) -> Result<String, PlayError> {
         let mut next = self.own()?.clone()?;
-        let count = self.count_lines();
-        let made = make_list(self.alloc, &mut next, list, logged, &mut self.scrollback)?;
-        let put = self.put(next, made, false);
-        self.with_lines(count, put)
-    }
-
-    fn count_lines(&self) -> usize {
-        match &self.scrollback {
-            Some(scrollback) => scrollback.len(),
-            None => 0,
+        let count = self
+            .scrollback
+            .as_ref()
+            .map_or(0, |scrollback| scrollback.len());
+        let made = make_list(self.alloc, &mut next, &list, logged, &mut self.scrollback)?;
+        let put = self.put(next, made, false, out);
+        if let (Some(scrollback), Err(_)) = (&mut self.scrollback, &put) {
+            scrollback.lines.truncate(count);
         }
-    }
-
-    // Where a list wasn't made, the lines behind the first ones, which it scrolled off, go.
-    fn with_lines(
-        &mut self,
-        count: usize,
-        put: Result<String, PlayError>,
-    ) -> Result<String, PlayError> {
-        if let Some(scrollback) = &mut self.scrollback {
-            if put.is_err() {
-                scrollback.lines.truncate(count);
-            }
-        }
-        put
-    }
-
-    fn keep_lines(&mut self, widths: &[&str]) -> Result<String, PlayError> {
-        let scrollback = blank_lines(self.alloc, widths)?;
-        self.scrollback = Some(scrollback);
-        self.silent()
-    }
-
-    fn keep_newest(&mut self, count: &str) -> Result<String, PlayError> {
-        let count = given(count)?;
-        let scrollback = self.scrollback.as_mut().ok_or(PlayError::Bad)?;
-        scrollback.remove_first(scrollback.len().saturating_sub(count));
-        self.silent()
-    }
-
-    fn lines(&self) -> Result<String, PlayError> {
-        match &self.scrollback {
-            Some(scrollback) => kept_lines(self.alloc, scrollback),
-            None => Err(PlayError::Bad),
-        }
+        put?;
+        self.list = None;
+        Ok(())
     }
 
     // Prints a text again and again.
-    fn repeat(&mut self, count: &str, text: &str) -> Result<String, PlayError> {
+    fn repeat(&mut self, count: usize, text: &str, out: &mut String) -> Result<(), PlayError> {
         let alloc = self.alloc;
         let text = unescaped(alloc, text, ' ')?;
         let surface = self.own_mut()?;
-        for _ in 0..given(count)? {
+        for _ in 0..count {
             let change = Change::text_from(alloc, text.as_str())?;
             if surface.add_change(change).is_err() {
                 return Err(PlayError::Memory);
             }
         }
-        answers::number(alloc, surface)
+        Ok(write!(out, "{}", surface.current_seqno())?)
     }
 
-    fn add_event(&mut self, line: &str) -> Result<String, PlayError> {
-        let event = self.event(line)?;
-        self.events.push(event)?;
-        self.silent()
-    }
-
-    fn event(&mut self, line: &str) -> Result<Event<Measure>, PlayError> {
-        let words: Vec<&str> = line.split(' ').collect(self.alloc)?;
-        match words.as_slice() {
-            ["end"] => Ok(Event::Changes(self.list.take().ok_or(PlayError::Bad)?)),
-            ["draw", number, x, y] => {
-                let drawn = self.other(number)?.clone()?;
-                Ok(Event::Draw(drawn, given(x)?, given(y)?))
-            }
-            words => event(words),
-        }
-    }
-
-    // Runs the events, of which none are left.
-    fn run(&mut self, words: &[&str], full: bool) -> Result<String, PlayError> {
-        let size = measured_size(words)?;
-        let events = mem::replace(&mut self.events, Vec::new(self.alloc));
-        outcomes(self.alloc, size, full, events)
-    }
-
-    fn make(&mut self, words: &[&str]) -> Result<String, PlayError> {
-        let (width, height, measure) = measured_size(words)?;
-        let surface = Surface::new(self.alloc, width, height, measure)?;
-        self.show(surface)
-    }
-
-    fn make_full(&mut self, words: &[&str]) -> Result<String, PlayError> {
-        let (width, height, measure) = measured_size(words)?;
-        let surface = Surface::new_full(self.alloc, width, height, measure)?;
-        self.show(surface)
-    }
-
-    // The coming lines are about this new surface.
-    fn show(&mut self, surface: Surface<Measure>) -> Result<String, PlayError> {
-        let number = self.surfaces.len();
-        self.surfaces.push(surface)?;
-        self.turn_to(Shown::Surface(number))
-    }
-
-    fn make_clone(&mut self) -> Result<String, PlayError> {
-        let clone = self.own()?.clone()?;
-        self.surfaces.push(clone)?;
-        self.silent()
-    }
-
-    fn make_viewer(&mut self) -> Result<String, PlayError> {
-        let viewer = Viewer::new(self.alloc, self.own()?)?;
-        let last = viewer.last();
-        let answer = format!(in self.alloc; "last {last}")?;
-        self.viewers.push(viewer)?;
-        Ok(answer)
-    }
-
-    fn make_sequence(&mut self, words: &[&str]) -> Result<String, PlayError> {
-        let sequence = Sequence::new(self.alloc, words)?;
-        self.sequence = Some(sequence);
-        self.silent()
-    }
-
-    fn turn_to(&mut self, shown: Shown) -> Result<String, PlayError> {
-        self.shown = shown;
-        self.silent()
-    }
-
-    fn resize(&mut self, width: &str, height: &str) -> Result<String, PlayError> {
-        let (width, height) = size(width, height)?;
-        match self.own_mut()?.resize(width, height) {
-            Ok(()) => self.silent(),
-            Err(error) => answers::made(self.alloc, Err(error)),
-        }
-    }
-
-    fn flush(&mut self, seq: &str) -> Result<String, PlayError> {
-        let seq = given(seq)?;
-        self.own_mut()?.flush_changes_older_than(seq);
-        self.silent()
-    }
-
-    fn draw(&mut self, number: &str, x: &str, y: &str) -> Result<String, PlayError> {
-        let place = pair(x, y)?;
-        let mut next = self.own()?.clone()?;
-        let made = next.draw_from_screen(self.other(number)?, place.0, place.1);
-        self.put(next, made, true)
-    }
-
-    // Copies a region, or draws it there.
-    fn copy(&mut self, words: &[&str], drawn: bool) -> Result<String, PlayError> {
-        let [x, y, width, height, to_x, to_y] = words else {
+    // Draws another surface or a region on this surface, or copies a region.
+    fn draw(&mut self, words: &[&str], out: &mut String) -> Result<(), PlayError> {
+        let [name, place @ .., x, y] = words else {
             return Err(PlayError::Bad);
         };
-        let (from, size, to) = (pair(x, y)?, pair(width, height)?, pair(to_x, to_y)?);
+        let (x, y) = pair(x, y)?;
+        if let [number] = place {
+            let mut next = self.own()?.clone()?;
+            let made = next.draw_from_screen(self.other(number)?, x, y);
+            return self.put(next, made, true, out);
+        }
+        let (from, size) = region(place)?;
         let mut next = self.own()?.clone()?;
-        let made = if drawn {
-            next.draw_region(from.0, from.1, size.0, size.1, to.0, to.1)
+        let made = if *name == "copy" {
+            next.copy_region(from.0, from.1, size.0, size.1, x, y)
         } else {
-            next.copy_region(from.0, from.1, size.0, size.1, to.0, to.1)
+            next.draw_region(from.0, from.1, size.0, size.1, x, y)
         };
-        self.put(next, made, true)
+        self.put(next, made, true, out)
     }
 
     // Another surface makes what is due from a number on.
-    fn lead(&mut self, number: &str, seq: &str) -> Result<String, PlayError> {
-        let (number, seq) = pair(number, seq)?;
-        let (next, changes) = self.due(seq)?;
+    fn lead(&mut self, number: usize, seq: SequenceNo, out: &mut String) -> Result<(), PlayError> {
+        let (next, changes) = self.own()?.get_changes(seq)?;
+        let changes = changes.into_owned(self.alloc)?;
         let other = self.surfaces.get_mut(number).ok_or(PlayError::Bad)?;
-        match other.add_changes(changes) {
-            Ok(_) => answers::made(self.alloc, Ok(next)),
-            refused => answers::made(self.alloc, refused),
-        }
+        push_made(other.add_changes(changes).map(|_| next), out)
     }
 
-    fn due(&self, seq: SequenceNo) -> Result<(SequenceNo, Vec<Change>), PlayError> {
-        let (number, changes) = answers::due(self.own()?, seq)?;
-        Ok((number, changes.into_owned(self.alloc)?))
-    }
-
-    fn follow(&mut self, number: usize) -> Result<String, PlayError> {
+    // A viewer follows this surface: what it returned, its last number, the surface's, and whether
+    // both show the same, of a full surface all that it carries.
+    fn follow(&mut self, number: usize, out: &mut String) -> Result<(), PlayError> {
         let source = self.own()?.clone()?;
-        self.follow_source(number, &source)
-    }
-
-    fn follow_source(
-        &mut self,
-        number: usize,
-        source: &Surface<Measure>,
-    ) -> Result<String, PlayError> {
         let viewer = self.viewers.get_mut(number).ok_or(PlayError::Bad)?;
-        match viewer.follow(source) {
-            Ok(answer) => followed_words(self.alloc, viewer, answer, source),
+        match viewer.follow(&source) {
+            Ok(answer) => {
+                let same = is_same(viewer.surface(), &source, source.is_full())?;
+                let (last, number) = (viewer.last(), source.current_seqno());
+                write!(
+                    out,
+                    "= {answer}, last {last}, of {number}, shows the same: {same}"
+                )?;
+                Ok(())
+            }
             // It has no number then.
             Err(SurfaceError::Memory) if viewer.last() != 0 => Err(PlayError::Differs),
-            Err(error) => answers::made(self.alloc, Err(error)),
+            Err(error) => push_made(Err(error), out),
         }
     }
-
-    fn goto(&mut self, x: &str, y: &str) -> Result<String, PlayError> {
-        match &mut self.sequence {
-            Some(sequence) => sequence.goto(x, y),
-            None => Err(PlayError::Bad),
-        }
-    }
-
-    fn place(&self) -> Result<String, PlayError> {
-        match &self.sequence {
-            Some(sequence) => sequence.place(),
-            None => Err(PlayError::Bad),
-        }
-    }
-
-    fn consume(&mut self) -> Result<String, PlayError> {
-        if let Some(sequence) = self.sequence.take() {
-            self.consumed = sequence.into_changes();
-        }
-        answers::listed(self.alloc, self.consumed.as_slice())
-    }
-}
-
-// How a viewer followed: its answer, its last number, the source's, and whether both show the same.
-fn followed_words(
-    alloc: Global,
-    viewer: &Viewer<Measure>,
-    answer: SequenceNo,
-    source: &Surface<Measure>,
-) -> Result<String, PlayError> {
-    let same = answers::shows_same(viewer.surface(), source)?;
-    let (last, number) = (viewer.last(), source.current_seqno());
-    Ok(format!(in alloc; "= {answer}, last {last}, of {number}, shows the same: {same}")?)
 }

@@ -36,22 +36,12 @@ pub fn pair(x: &str, y: &str) -> Result<(usize, usize), PlayError> {
     Ok((given(x)?, given(y)?))
 }
 
-/// The word of a number.
-pub fn number_word(alloc: Global, number: usize) -> Result<String, PlayError> {
-    Ok(format!(in alloc; "{number}")?)
-}
-
 /// `true` or `false`, or `1` or `0`.
 pub fn truth(word: &str) -> Result<bool, PlayError> {
     named(
         &[("true", true), ("false", false), ("1", true), ("0", false)],
         word,
     )
-}
-
-/// The word of a truth.
-pub fn truth_word(alloc: Global, truth: bool) -> Result<String, PlayError> {
-    Ok(format!(in alloc; "{truth}")?)
 }
 
 /// The first name of a value in a table of names, or no word.

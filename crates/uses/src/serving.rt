@@ -18,7 +18,7 @@ pub enum ShareError {
     /// A change was refused. Those before it are made, and no others. The screen is the one that
     /// they make, or where memory was refused, any one of that size. The clients are as they were.
     Refused(SurfaceError),
-    /// All changes are made, but a client can't be served. Each client was tried.
+    /// A client can't be served. All changes of `Room::share` are made then.
     Unserved(ClientError),
 }
 
@@ -146,11 +146,11 @@ impl<W: Widths> Room<W> {
     }
 
     /// Serves each client: all of them show the screen then. One that can't be served is passed
-    /// over, and the first such error is returned: each other client shows the screen, and the next
-    /// call serves all of them anew. The screen stays.
+    /// over, and the first such error is returned. The screen stays, and the next call serves all
+    /// clients anew.
     pub fn serve_all(&mut self) -> Result<(), ClientError>
         ensures shows { OnOk result (ShowsAll self.new) }
-        // Each is served, or fails to be, for a reason of its own.
+        // Each is served, or fails to be for a reason of its own.
         ensures serves { ServesAll (measure W.width_of) self.old result self.new }
         ensures same { full_of self.new.source.surface ≡ full_of self.old.source.surface }
         ensures widths { self.new.source.surface.widths ≡ self.old.source.surface.widths }

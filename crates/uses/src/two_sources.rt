@@ -35,9 +35,9 @@ pub fn feed_in_two<W: Widths>(
     Ok(())
 }
 
-/// Shows two shared screens on a new client, by a stream that is cut at a byte. The answers of the
-/// first source come late, twice and in the wrong order, and the second one's comes last: the
-/// client shows that source then.
+/// Shows two shared screens on a new client without limits, by a stream that is cut at a byte. The
+/// answers of the first source come late, twice and in the wrong order, and the second one's comes
+/// last: the client shows that source then. After an error both sources serve whom they served.
 pub fn show_both<W: Widths>(
     alloc: Global,
     first: &mut Source<W>,

@@ -2,6 +2,7 @@ pub mod Lists
 pub mod Digits
 pub mod PackedStyles
 pub mod StyleSetters
+pub mod PackedFallbacks
 pub mod Boxes
 pub mod PlainAttributes
 pub mod TextForms

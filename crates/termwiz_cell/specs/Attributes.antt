@@ -136,18 +136,9 @@ abbrev pub is_default : ColorAttribute → Bool
 is_default color.Default = true
 is_default _ = false
 
--- a true colour that the palette stands in for
-abbrev pub has_palette_fallback : ColorAttribute → Bool
-has_palette_fallback (color.TrueColorWithPaletteFallback _ _) = true
-has_palette_fallback _ = false
-
--- the attributes take memory: they have a true colour with a palette's fallback, an underline
--- colour that isn't the default, or a link
+-- the attributes take memory: they have an underline colour that isn't the default, or a link
 abbrev pub needs_box : Attributes → Bool
-needs_box a =
-    has_palette_fallback a.foreground ||
-    (has_palette_fallback a.background ||
-    (not (is_default a.underline_color) || is_some a.hyperlink))
+needs_box a = not (is_default a.underline_color) || is_some a.hyperlink
 
 module _ (a b : Attributes) where
   bits_inj-at :

@@ -7,6 +7,7 @@ pub mod LinkText
 pub mod LinkPairs
 pub mod LinkParse
 pub mod Attributes
+pub mod FallbackWord
 pub mod AttributesLayout
 pub mod Width
 pub mod Measure
@@ -55,11 +56,11 @@ pub use Rattle.termwiz_cell.specs.Sequence.{AddsAll, AddsOne, DistancesFit, IsSe
 pub use Rattle.termwiz_cell.specs.Shapes.{is_blinking_shape, line_at, line_number, shape_at, shape_number}
 pub use Rattle.termwiz_cell.specs.Style.{blink_at, blink_number, flag_number, intensity_at, intensity_number, is_blinking, is_underlined, semantic_at, semantic_number, underline_at, underline_number, vertical_at, vertical_number}
 pub use Rattle.termwiz_cell.specs.StyleLending.{LendsStyle}
-pub use Rattle.termwiz_cell.specs.StyleWord.{FitsWord, IsRgb, bits_at, color_at, color_number, rgb_at, rgb_number, style_at, style_sgr_only, word_part}
+pub use Rattle.termwiz_cell.specs.StyleWord.{FitsWord, IsRgb, bits_at, color_at, color_number, rgb_at, rgb_number, style_at, style_sgr_only}
 pub use Rattle.termwiz_cell.specs.Width.{asked_by, at_version, columns_of, unicode_columns, variation, version_index}
 pub use Rattle.termwiz_cell.specs.declared.change.sequence.SequenceError.TheVariants.{Range}
 pub use Rattle.termwiz_text.specs.Plain.{is_one_plain, is_plain}
 pub use Rattle.unicode_segmentation.specs.Grapheme.{graphemes}
 pub use Rattle.termwiz_cell.specs.Lending.{LendsAttrs}
 pub use Rattle.termwiz_cell.specs.Rgb.{rgb}
-pub use Rattle.termwiz_cell.specs.AttributesLayout.{rare_part, shown}
+pub use Rattle.termwiz_cell.specs.FallbackWord.{fallback_at, fallback_number, fallback_of, no_fallbacks, with_fallback, word_part}

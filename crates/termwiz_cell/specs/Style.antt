@@ -12,8 +12,8 @@ use Rattle.termwiz_cell.specs.declared.cell.style.VerticalAlign.{VerticalAlign}
 use Rattle.termwiz_cell.specs.declared.cell.style.VerticalAlign.TheVariants.{BaseLine, SuperScript, SubScript}
 use Rattle.termwiz_cell.specs.declared.color.ColorAttribute.{ColorAttribute}
 
--- the attributes that one word holds: all but the underline colour, the link and true colours with
--- a palette's fallback
+-- the attributes that one word holds: all but the underline colour, the link and the palette's
+-- fallbacks of true colours
 pub record Style : Type 0 where
   pub intensity : Intensity
   pub underline : Underline

@@ -81,11 +81,6 @@ pub record IsRgb (c : Rgb) : Type 0 where
   pub green : c.green < 256
   pub blue : c.blue < 256
 
--- the part of a colour that a word holds: a true one with a palette's fallback stands elsewhere
-abbrev pub word_part : ColorAttribute → ColorAttribute
-word_part (color.TrueColorWithPaletteFallback _ _) = color.Default
-word_part c = c
-
 -- a word holds this colour
 abbrev pub FitsWord : ColorAttribute → Type 0
 FitsWord color.Default = ⊤

@@ -9,6 +9,7 @@ ghost use Rattle.termwiz_cell.specs.{blank, clean, false, not, sem};
 mod attribute_change;
 mod attributes;
 mod debug;
+mod fallback_word;
 mod form;
 mod short_text;
 mod style;

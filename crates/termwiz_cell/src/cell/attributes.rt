@@ -4,10 +4,11 @@ ghost use Rattle.termwiz_cell.specs.{IfOk, IsOk, OnOk, attribute_change_value, a
 ghost use Rattle.termwiz_cell.specs.{attributes_eq-Decides, bits_of, decided, default_attributes};
 ghost use Rattle.termwiz_cell.specs.{false, has_only_background, linked, needs_box, sgr_only};
 ghost use Rattle.termwiz_cell.specs.{partial_equiv_from_equiv, takes_memory, with_attribute};
-ghost use Rattle.termwiz_cell.specs.{rare_part, shown, without_colors};
+ghost use Rattle.termwiz_cell.specs.{without_colors};
 
 use super::attribute_change::AttributeChange;
-use super::form::{Form, RareColor, clone_link, is_default_color};
+use super::fallback_word::{FallbackWord, fallback_of, with_fallback};
+use super::form::{Form, clone_link, is_default_color};
 use super::style::{Blink, Intensity, SemanticType, Underline, VerticalAlign};
 use super::style_word::StyleWord;
 use crate::color::ColorAttribute;
@@ -19,10 +20,9 @@ use std::rc::Rc;
 /// The attributes of a cell: how its text is drawn, whether that is output, input or a prompt,
 /// whether its row was wrapped after it, and its link.
 ///
-/// All are stored in one word but the underline colour, the link, and true colours with a palette's
-/// fallback. Those take memory, which is freed once all of them have their defaults again. A clone
-/// can only fail where it takes memory. Calls that begin with `set_` return the attributes, and can
-/// be chained.
+/// All are stored in sixteen bytes but the underline colour and the link. Those take memory, which
+/// is freed once both have their defaults again. A clone can only fail where it takes memory. Calls
+/// that begin with `set_` return the attributes, and can be chained.
 #[derive(Drop)]
 pub struct CellAttributes {
     form: Form,
@@ -45,7 +45,7 @@ impl CellAttributes {
         ensures { result ≡ default_attributes }
     {
         CellAttributes {
-            form: Form::Plain(StyleWord::blank()),
+            form: Form::Plain(FallbackWord::none(), StyleWord::blank()),
         }
     }
 
@@ -255,12 +255,11 @@ impl CellAttributes {
     pub fn foreground(&self) -> ColorAttribute
         ensures { result ≡ self.now.foreground }
     {
-        shown(self.form.foreground(), self.form.style().foreground())
+        let word = self.form.style().foreground();
+        with_fallback(word, self.form.fallbacks().foreground())
     }
 
-    /// Sets the colour of the text. It can only fail where the new attributes take memory and the
-    /// old ones took none. Only `change_foreground` promises that an error leaves the attributes
-    /// unchanged.
+    /// Sets the colour of the text. It takes no memory, and never fails.
     pub fn set_foreground(
         &mut self,
         alloc: Global,
@@ -268,29 +267,22 @@ impl CellAttributes {
     ) -> Result<&mut Self, AllocError>
         ensures same_reference { IfOk result (λ r. r.ghost_name ≡ self.entry.ghost_name) }
         ensures ok { IfOk result (λ r. r.now ≡ record self.old { foreground = value }) }
-        ensures boxed { needs_box self.old ≡ true → IsOk result }
-        ensures succeeds { needs_box (record self.old { foreground = value }) ≡ false →
-            IsOk result }
+        ensures succeeds { IsOk result }
     {
         self.change_foreground(alloc, value)?;
         Ok(self)
     }
 
-    /// Sets the colour of the text. It can only fail where the new attributes take memory and the
-    /// old ones took none. An error leaves the attributes unchanged.
+    /// Sets the colour of the text. It takes no memory, and never fails.
     pub fn change_foreground(
         &mut self,
         alloc: Global,
         value: ColorAttribute,
     ) -> Result<(), AllocError>
         ensures ok { OnOk result (self.new ≡ record self.old { foreground = value }) }
-        ensures err { OnErr result (self.new ≡ self.old) }
-        ensures boxed { needs_box self.old ≡ true → IsOk result }
-        ensures succeeds { needs_box (record self.old { foreground = value }) ≡ false →
-            IsOk result }
+        ensures succeeds { IsOk result }
     {
-        let rare = rare_part(&value);
-        self.form.set_color(alloc, RareColor::Foreground, rare)?;
+        self.form.set_foreground_fallback(fallback_of(&value));
         self.form.style_mut().set_foreground(value);
         Ok(())
     }
@@ -299,12 +291,11 @@ impl CellAttributes {
     pub fn background(&self) -> ColorAttribute
         ensures { result ≡ self.now.background }
     {
-        shown(self.form.background(), self.form.style().background())
+        let word = self.form.style().background();
+        with_fallback(word, self.form.fallbacks().background())
     }
 
-    /// Sets the background colour. It can only fail where the new attributes take memory and the
-    /// old ones took none. Only `change_background` promises that an error leaves the attributes
-    /// unchanged.
+    /// Sets the background colour. It takes no memory, and never fails.
     pub fn set_background(
         &mut self,
         alloc: Global,
@@ -312,29 +303,22 @@ impl CellAttributes {
     ) -> Result<&mut Self, AllocError>
         ensures same_reference { IfOk result (λ r. r.ghost_name ≡ self.entry.ghost_name) }
         ensures ok { IfOk result (λ r. r.now ≡ record self.old { background = value }) }
-        ensures boxed { needs_box self.old ≡ true → IsOk result }
-        ensures succeeds { needs_box (record self.old { background = value }) ≡ false →
-            IsOk result }
+        ensures succeeds { IsOk result }
     {
         self.change_background(alloc, value)?;
         Ok(self)
     }
 
-    /// Sets the background colour. It can only fail where the new attributes take memory and the
-    /// old ones took none. An error leaves the attributes unchanged.
+    /// Sets the background colour. It takes no memory, and never fails.
     pub fn change_background(
         &mut self,
         alloc: Global,
         value: ColorAttribute,
     ) -> Result<(), AllocError>
         ensures ok { OnOk result (self.new ≡ record self.old { background = value }) }
-        ensures err { OnErr result (self.new ≡ self.old) }
-        ensures boxed { needs_box self.old ≡ true → IsOk result }
-        ensures succeeds { needs_box (record self.old { background = value }) ≡ false →
-            IsOk result }
+        ensures succeeds { IsOk result }
     {
-        let rare = rare_part(&value);
-        self.form.set_color(alloc, RareColor::Background, rare)?;
+        self.form.set_background_fallback(fallback_of(&value));
         self.form.style_mut().set_background(value);
         Ok(())
     }
@@ -377,7 +361,7 @@ impl CellAttributes {
         ensures succeeds { needs_box (record self.old { underline_color = value }) ≡ false →
             IsOk result }
     {
-        self.form.set_color(alloc, RareColor::Underline, value)
+        self.form.set_underline_color(alloc, value)
     }
 
     /// The link of the text, if it has one.
@@ -423,8 +407,7 @@ impl CellAttributes {
 
     /// A copy with the semantic type `Output`, and without underline, overline, strike through and
     /// link. The other attributes are kept, the underline colour and the wrapped mark too. It can
-    /// only fail where the copy takes memory, for an underline colour or a true colour with a
-    /// palette's fallback.
+    /// only fail where the copy takes memory, for an underline colour.
     pub fn clone_sgr_only(&self, alloc: Global) -> Result<CellAttributes, AllocError>
         ensures ok { IfOk result (λ copy. copy ≡ sgr_only self.now) }
         ensures succeeds { needs_box (sgr_only self.now) ≡ false → IsOk result }
@@ -508,26 +491,6 @@ impl CellAttributes {
         ensures { result ≡ attributes_eq self.now other.now }
     {
         self.form.is_same(&other.form)
-    }
-}
-
-/// The box's colour, or the word's where that is the default.
-fn shown(rare: ColorAttribute, word: ColorAttribute) -> ColorAttribute
-    ensures { result ≡ shown rare word }
-{
-    match rare {
-        ColorAttribute::Default => word,
-        rare => rare,
-    }
-}
-
-/// The colour where the box holds it, or else the default.
-fn rare_part(color: &ColorAttribute) -> ColorAttribute
-    ensures { result ≡ rare_part color.now }
-{
-    match color {
-        ColorAttribute::TrueColorWithPaletteFallback(_, _) => *color,
-        _ => ColorAttribute::Default,
     }
 }
 

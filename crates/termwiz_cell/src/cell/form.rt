@@ -1,11 +1,13 @@
-//! The two forms of attributes: a word alone, and a box with the word and the rare attributes.
+//! The two forms of attributes: the word and the fallbacks alone, and a box with the rare
+//! attributes too.
 ghost use Rattle.std.specs.Prelude.{◌≡◌, ◌↔◌, IfOk, IsNone, IsTrue, MatchOption, OnErr, option_map};
 ghost use Rattle.termwiz_cell.specs.{IsOk, LendsStyle, None, OnOk, false, is_default, linked, sem};
-ghost use Rattle.termwiz_cell.specs.{option_link_eq, style_at, style_sgr_only, true};
+ghost use Rattle.termwiz_cell.specs.{no_fallbacks, option_link_eq, style_at, style_sgr_only, true};
 ghost use Rattle.termwiz_cell.specs.AttributesLayout as spec;
 
+use super::fallback_word::FallbackWord;
 use super::style_word::StyleWord;
-use crate::color::{ColorAttribute, is_same_color};
+use crate::color::{ColorAttribute, PaletteIndex, is_same_color};
 use crate::hyperlink::Hyperlink;
 use std::alloc::{AllocError, Global};
 use std::rc::Rc;
@@ -13,69 +15,28 @@ use std::rc::Rc;
 /// Attributes in one of two forms. They are `Boxed` only while a rare attribute isn't default.
 #[derive(Drop)]
 pub(super) enum Form {
-    Plain(StyleWord),
+    Plain(FallbackWord, StyleWord),
     Boxed(Box<Full>),
 }
 
-/// The word, and the rare attributes: the underline colour, the link, and true colours with a
-/// palette's fallback.
+// The fallbacks come first, and fit between the variant's tag and the word.
+const _: () = prove!(size_of::<Form>() == 16);
+
+/// The fallbacks, the word, and the rare attributes: the underline colour and the link.
 #[derive(Drop)]
 pub(super) struct Full {
+    pub(super) fallbacks: FallbackWord,
     pub(super) style: StyleWord,
-    pub(super) foreground: ColorAttribute,
-    pub(super) background: ColorAttribute,
     pub(super) underline_color: ColorAttribute,
     pub(super) hyperlink: Option<Rc<Hyperlink>>,
 }
 
-/// Which of the rare colours.
-#[derive(Clone, Copy)]
-pub(super) enum RareColor {
-    Foreground,
-    Background,
-    Underline,
-}
-
 impl Full {
-    fn new(style: StyleWord) -> Full
-        ensures rare { spec.full_rare result ≡ spec.rare_default }
-        ensures style { result.style ≡ style }
-    {
-        Full {
-            style,
-            foreground: ColorAttribute::Default,
-            background: ColorAttribute::Default,
-            underline_color: ColorAttribute::Default,
-            hyperlink: None,
-        }
-    }
-
-    /// Sets one of the rare colours.
-    fn put(&mut self, which: RareColor, value: ColorAttribute)
-        ensures rare { spec.full_rare self.new
-            ≡ spec.with_color which (spec.full_rare self.old) value }
-        ensures style { self.new.style ≡ self.old.style }
-    {
-        match which {
-            RareColor::Foreground => self.foreground = value,
-            RareColor::Background => self.background = value,
-            RareColor::Underline => self.underline_color = value,
-        }
-    }
-
     /// Whether all rare attributes have their defaults.
     fn is_default(&self) -> bool
         ensures { result ≡ spec.is_rare_default (spec.full_rare self.now) }
     {
-        self.has_default_colors() && self.hyperlink.is_none()
-    }
-
-    fn has_default_colors(&self) -> bool
-        ensures { result ≡ spec.has_default_colors (spec.full_rare self.now) }
-    {
-        is_default_color(self.foreground)
-            && is_default_color(self.background)
-            && is_default_color(self.underline_color)
+        is_default_color(self.underline_color) && self.hyperlink.is_none()
     }
 
     /// A copy in a box of its own. It is kept out of line, so that the path of plain attributes is
@@ -83,15 +44,15 @@ impl Full {
     #[inline(never)]
     fn copied(&self, alloc: Global) -> Result<Form, AllocError>
         requires { spec.is_rare_default (spec.full_rare self.now) ≡ false }
+        ensures fallbacks { IfOk result (λ copy. spec.fallbacks_in copy ≡ self.now.fallbacks) }
         ensures style { IfOk result (λ copy. spec.style_in copy ≡ self.now.style) }
         ensures rare { IfOk result (λ copy. spec.rare_in copy ≡ spec.full_rare self.now) }
         ensures needed { IfOk result (λ copy. spec.IsNeeded copy) }
     {
         let hyperlink = clone_link(&self.hyperlink)?;
         let copy = Full {
+            fallbacks: self.fallbacks.copied(),
             style: self.style.copied(),
-            foreground: self.foreground,
-            background: self.background,
             underline_color: self.underline_color,
             hyperlink,
         };
@@ -104,9 +65,12 @@ impl Full {
     fn is_same(&self, other: &Full) -> bool
         ensures { IsTrue result
             ↔ ((self.now.style ≡ other.now.style)
+            × (self.now.fallbacks ≡ other.now.fallbacks)
             × (spec.full_rare self.now ≡ spec.full_rare other.now)) }
     {
-        self.style.is_same(&other.style) && self.is_same_rare(other)
+        self.style.is_same(&other.style)
+            && self.fallbacks.is_same(&other.fallbacks)
+            && self.is_same_rare(other)
     }
 
     fn is_same_rare(&self, other: &Full) -> bool
@@ -118,9 +82,7 @@ impl Full {
     fn has_same_parts(&self, other: &Full) -> bool
         ensures { result ≡ spec.rare_eq (spec.full_rare self.now) (spec.full_rare other.now) }
     {
-        is_same_color(self.foreground, other.foreground)
-            && is_same_color(self.background, other.background)
-            && is_same_color(self.underline_color, other.underline_color)
+        is_same_color(self.underline_color, other.underline_color)
             && is_same_link(self.hyperlink.as_ref(), other.hyperlink.as_ref())
     }
 }
@@ -131,7 +93,7 @@ impl Form {
         ensures { result.now ≡ spec.style_in self.now }
     {
         match self {
-            Form::Plain(style) => style,
+            Form::Plain(_, style) => style,
             Form::Boxed(full) => &full.style,
         }
     }
@@ -142,8 +104,48 @@ impl Form {
         ensures value { result.now ≡ spec.style_in self.old }
     {
         match self {
-            Form::Plain(style) => style,
+            Form::Plain(_, style) => style,
             Form::Boxed(full) => &mut full.style,
+        }
+    }
+
+    /// The fallbacks of the word's colours.
+    pub(super) fn fallbacks(&self) -> &FallbackWord
+        ensures { result.now ≡ spec.fallbacks_in self.now }
+    {
+        match self {
+            Form::Plain(fallbacks, _) => fallbacks,
+            Form::Boxed(full) => &full.fallbacks,
+        }
+    }
+
+    /// Sets the fallback of the text's colour.
+    pub(super) fn set_foreground_fallback(&mut self, value: Option<PaletteIndex>)
+        requires { spec.IsNeeded self.old }
+        ensures fallbacks { spec.fallbacks_in self.new
+            ≡ record (spec.fallbacks_in self.old) { foreground = value } }
+        ensures style { spec.style_in self.new ≡ spec.style_in self.old }
+        ensures rare { spec.rare_in self.new ≡ spec.rare_in self.old }
+        ensures needed { spec.IsNeeded self.new }
+    {
+        match self {
+            Form::Plain(fallbacks, _) => fallbacks.set_foreground(value),
+            Form::Boxed(full) => full.fallbacks.set_foreground(value),
+        }
+    }
+
+    /// Sets the fallback of the background's colour.
+    pub(super) fn set_background_fallback(&mut self, value: Option<PaletteIndex>)
+        requires { spec.IsNeeded self.old }
+        ensures fallbacks { spec.fallbacks_in self.new
+            ≡ record (spec.fallbacks_in self.old) { background = value } }
+        ensures style { spec.style_in self.new ≡ spec.style_in self.old }
+        ensures rare { spec.rare_in self.new ≡ spec.rare_in self.old }
+        ensures needed { spec.IsNeeded self.new }
+    {
+        match self {
+            Form::Plain(fallbacks, _) => fallbacks.set_background(value),
+            Form::Boxed(full) => full.fallbacks.set_background(value),
         }
     }
 
@@ -152,31 +154,12 @@ impl Form {
         requires { spec.IsNeeded self.now }
         ensures { IsTrue result
             ↔ ((spec.style_in self.now ≡ style_at 0)
+            × (spec.fallbacks_in self.now ≡ no_fallbacks)
             × (spec.rare_in self.now ≡ spec.rare_default)) }
     {
         match self {
-            Form::Plain(style) => style.is_blank(),
+            Form::Plain(fallbacks, style) => style.is_blank() && fallbacks.are_none(),
             Form::Boxed(_) => false,
-        }
-    }
-
-    /// The box's foreground, or the default where there is no box.
-    pub(super) fn foreground(&self) -> ColorAttribute
-        ensures { result ≡ (spec.rare_in self.now).foreground }
-    {
-        match self {
-            Form::Plain(_) => ColorAttribute::Default,
-            Form::Boxed(full) => full.foreground,
-        }
-    }
-
-    /// The box's background, or the default where there is no box.
-    pub(super) fn background(&self) -> ColorAttribute
-        ensures { result ≡ (spec.rare_in self.now).background }
-    {
-        match self {
-            Form::Plain(_) => ColorAttribute::Default,
-            Form::Boxed(full) => full.background,
         }
     }
 
@@ -185,7 +168,7 @@ impl Form {
         ensures { result ≡ (spec.rare_in self.now).underline_color }
     {
         match self {
-            Form::Plain(_) => ColorAttribute::Default,
+            Form::Plain(_, _) => ColorAttribute::Default,
             Form::Boxed(full) => full.underline_color,
         }
     }
@@ -195,42 +178,46 @@ impl Form {
         ensures { option_map (λ rc. rc.now.value) result ≡ (spec.rare_in self.now).hyperlink }
     {
         match self {
-            Form::Plain(_) => None,
+            Form::Plain(_, _) => None,
             Form::Boxed(full) => full.hyperlink.as_ref(),
         }
     }
 
-    /// Sets one of the rare colours. It can only fail where the new attributes need a box and the
-    /// old ones had none.
-    #[tactic(auto, using(crate::proofs::Boxes::rare_default_only, crate::proofs::Boxes::default_color_alone))]
-    pub(super) fn set_color(
+    /// Sets the underline colour. It can only fail where the new attributes need a box and the old
+    /// ones had none.
+    #[tactic(auto, using(crate::proofs::Boxes::rare_default_only))]
+    pub(super) fn set_underline_color(
         &mut self,
         alloc: Global,
-        which: RareColor,
         value: ColorAttribute,
     ) -> Result<(), AllocError>
         requires { spec.IsNeeded self.old }
         ensures ok { OnOk result (
-            spec.rare_in self.new ≡ spec.with_color which (spec.rare_in self.old) value) }
+            spec.rare_in self.new ≡ record (spec.rare_in self.old) { underline_color = value }) }
         ensures err { OnErr result (spec.rare_in self.new ≡ spec.rare_in self.old) }
+        ensures fallbacks { spec.fallbacks_in self.new ≡ spec.fallbacks_in self.old }
         ensures style { spec.style_in self.new ≡ spec.style_in self.old }
         ensures needed { spec.IsNeeded self.new }
         ensures boxed { IsTrue (spec.is_boxed self.old) → IsOk result }
-        ensures succeeds { spec.is_rare_default (spec.with_color which
-            (spec.rare_in self.old) value) ≡ true → IsOk result }
+        ensures succeeds { spec.is_rare_default (record
+            (spec.rare_in self.old) { underline_color = value }) ≡ true → IsOk result }
     {
         match self {
-            Form::Plain(style) => {
+            Form::Plain(fallbacks, style) => {
                 if !is_default_color(value) {
-                    let mut made = Full::new(style.copied());
-                    made.put(which, value);
+                    let made = Full {
+                        fallbacks: fallbacks.copied(),
+                        style: style.copied(),
+                        underline_color: value,
+                        hyperlink: None,
+                    };
                     *self = Form::Boxed(Box::new(alloc, made)?);
                 }
             }
             Form::Boxed(full) => {
-                full.put(which, value);
+                full.underline_color = value;
                 if full.is_default() {
-                    *self = Form::Plain(full.style.copied());
+                    *self = Form::Plain(full.fallbacks.copied(), full.style.copied());
                 }
             }
         }
@@ -249,23 +236,28 @@ impl Form {
         ensures ok { OnOk result (
             spec.rare_in self.new ≡ record (spec.rare_in self.old) { hyperlink = linked value }) }
         ensures err { OnErr result (spec.rare_in self.new ≡ spec.rare_in self.old) }
+        ensures fallbacks { spec.fallbacks_in self.new ≡ spec.fallbacks_in self.old }
         ensures style { spec.style_in self.new ≡ spec.style_in self.old }
         ensures needed { spec.IsNeeded self.new }
         ensures boxed { IsTrue (spec.is_boxed self.old) → IsOk result }
         ensures succeeds { IsNone value → IsOk result }
     {
         match self {
-            Form::Plain(style) => {
+            Form::Plain(fallbacks, style) => {
                 if value.is_some() {
-                    let mut made = Full::new(style.copied());
-                    made.hyperlink = value;
+                    let made = Full {
+                        fallbacks: fallbacks.copied(),
+                        style: style.copied(),
+                        underline_color: ColorAttribute::Default,
+                        hyperlink: value,
+                    };
                     *self = Form::Boxed(Box::new(alloc, made)?);
                 }
             }
             Form::Boxed(full) => {
                 full.hyperlink = value;
                 if full.is_default() {
-                    *self = Form::Plain(full.style.copied());
+                    *self = Form::Plain(full.fallbacks.copied(), full.style.copied());
                 }
             }
         }
@@ -279,10 +271,13 @@ impl Form {
         requires other_needed { spec.IsNeeded other.now }
         ensures { IsTrue result
             ↔ ((spec.style_in self.now ≡ spec.style_in other.now)
+            × (spec.fallbacks_in self.now ≡ spec.fallbacks_in other.now)
             × (spec.rare_in self.now ≡ spec.rare_in other.now)) }
     {
         match (self, other) {
-            (Form::Plain(a), Form::Plain(b)) => a.is_same(b),
+            (Form::Plain(a_fallbacks, a), Form::Plain(b_fallbacks, b)) => {
+                a.is_same(b) && a_fallbacks.is_same(b_fallbacks)
+            }
             (Form::Boxed(a), Form::Boxed(b)) => a.is_same(b),
             _ => false,
         }
@@ -291,25 +286,27 @@ impl Form {
     /// A copy. It can only fail where it needs a box.
     pub(super) fn copied(&self) -> Result<Form, AllocError>
         requires { spec.IsNeeded self.now }
+        ensures fallbacks { IfOk result (λ copy.
+            spec.fallbacks_in copy ≡ spec.fallbacks_in self.now) }
         ensures style { IfOk result (λ copy. spec.style_in copy ≡ spec.style_in self.now) }
         ensures rare { IfOk result (λ copy. spec.rare_in copy ≡ spec.rare_in self.now) }
         ensures needed { IfOk result (λ copy. spec.IsNeeded copy) }
         ensures succeeds { spec.is_boxed self.now ≡ false → IsOk result }
     {
         match self {
-            Form::Plain(style) => Ok(Form::Plain(style.copied())),
+            Form::Plain(fallbacks, style) => Ok(Form::Plain(fallbacks.copied(), style.copied())),
             Form::Boxed(full) => full.copied(*Box::allocator(full)),
         }
     }
 
-    /// A copy of the word, or `None` where there is a box.
+    /// A copy, or `None` where there is a box.
     #[inline]
     pub(super) fn unboxed_copy(&self) -> Option<Form>
         ensures { MatchOption result (spec.is_boxed self.now ≡ true) (λ copy. (copy ≡ self.now)
             × (spec.is_boxed self.now ≡ false)) }
     {
         match self {
-            Form::Plain(style) => Some(Form::Plain(style.copied())),
+            Form::Plain(fallbacks, style) => Some(Form::Plain(fallbacks.copied(), style.copied())),
             Form::Boxed(_) => None,
         }
     }
@@ -317,6 +314,8 @@ impl Form {
     /// A copy with the semantic type `Output`, and without underline, overline, strike through and
     /// link. It can only fail where the copy needs a box.
     pub(super) fn sgr_only(&self, alloc: Global) -> Result<Form, AllocError>
+        ensures fallbacks { IfOk result (λ copy.
+            spec.fallbacks_in copy ≡ spec.fallbacks_in self.now) }
         ensures style { IfOk result (λ copy.
             spec.style_in copy ≡ style_sgr_only (spec.style_in self.now)) }
         ensures rare { IfOk result (λ copy.
@@ -327,15 +326,14 @@ impl Form {
     {
         let style = self.style().sgr_only();
         match self {
-            Form::Plain(_) => Ok(Form::Plain(style)),
+            Form::Plain(fallbacks, _) => Ok(Form::Plain(fallbacks.copied(), style)),
             Form::Boxed(full) => {
-                if full.has_default_colors() {
-                    return Ok(Form::Plain(style));
+                if is_default_color(full.underline_color) {
+                    return Ok(Form::Plain(full.fallbacks.copied(), style));
                 }
                 let copy = Full {
+                    fallbacks: full.fallbacks.copied(),
                     style,
-                    foreground: full.foreground,
-                    background: full.background,
                     underline_color: full.underline_color,
                     hyperlink: None,
                 };

@@ -10,9 +10,9 @@ use std::marker::Model;
 /// Attributes in a word: one digit each, each with a radix of its own. A style has exactly one
 /// word.
 ///
-/// The word holds all attributes but the underline colour, the link and true colours with a
-/// palette's fallback: 55296 styles and 16777473 colours for text and background each are fewer
-/// than 2^64 words.
+/// The word holds all attributes but the underline colour, the link and the palette's fallbacks of
+/// true colours: 55296 styles and 16777473 colours for text and background each are fewer than 2^64
+/// words.
 #[derive(Drop)]
 pub(super) struct StyleWord {
     word: u64,
@@ -82,16 +82,17 @@ fn flag_digit(flag: bool) -> u64
 }
 
 /// The digit of a colour: 0 for the default, the index plus 1 for one of the palette, and from 257
-/// on the true colours. One with a palette's fallback has the default's.
+/// on the true colours, with a palette's fallback or without one.
 fn color_digit(color: ColorAttribute) -> u64
     ensures value { result ≡ color_number (word_part color) }
     ensures fits { FitsWord (word_part color) }
     ensures bound { result < 16777473 }
 {
     match color {
-        ColorAttribute::TrueColorWithDefaultFallback(rgb) => 257 + rgb_number(rgb),
+        ColorAttribute::TrueColorWithDefaultFallback(rgb)
+        | ColorAttribute::TrueColorWithPaletteFallback(rgb, _) => 257 + rgb_number(rgb),
         ColorAttribute::PaletteIndex(index) => index as u64 + 1,
-        ColorAttribute::TrueColorWithPaletteFallback(_, _) | ColorAttribute::Default => 0,
+        ColorAttribute::Default => 0,
     }
 }
 
@@ -338,7 +339,7 @@ impl StyleWord {
         color_from(self.word / FOREGROUND % COLORS)
     }
 
-    /// Sets the colour, or the default where the word can't hold it.
+    /// Sets the colour without its palette's fallback.
     #[tactic(auto, using(crate::proofs::StyleSetters::foreground))]
     pub(super) fn set_foreground(&mut self, value: ColorAttribute)
         ensures { self.new ≡ record self.old { foreground = word_part value } }
@@ -353,7 +354,7 @@ impl StyleWord {
         color_from(self.word / BACKGROUND)
     }
 
-    /// Sets the colour, or the default where the word can't hold it.
+    /// Sets the colour without its palette's fallback.
     #[tactic(auto, using(crate::proofs::StyleSetters::background))]
     pub(super) fn set_background(&mut self, value: ColorAttribute)
         ensures { self.new ≡ record self.old { background = word_part value } }

@@ -1,4 +1,5 @@
 mod Drawn
+mod Touching
 pub mod RowNumbers
 mod Printing
 mod Changed
@@ -11,6 +12,7 @@ mod DiffSurfaces
 pub mod Remembering
 mod Forgetting
 mod Unlogged
+mod Applying
 mod ScrolledOff
 mod Viewing
 mod Accepting

@@ -1,6 +1,7 @@
 -- A run of ASCII or of letters that is printed at once prints its characters in turn.
 use Rattle.std.proofs.Common.{◌≡◌, ℕ, suc, ◌+◌, ◌*◌, ◌<◌, ◌≤◌, true, false, min, List, [], ◌∷◌, length, get_or, map, fold, refl, sym, ◌∙◌, ap, ap₂, subst, arith}
-use Rattle.std.specs.Prelude.{slice_set, encode_utf8}
+use Rattle.std.specs.Prelude.{slice_set, encode_utf8, Bool, ◌||◌}
+use Rattle.std.proofs.Math.Bool.{or-false}
 use Rattle.std.specs.List.{All, list_all}
 use Rattle.std.proofs.lemmas.List.Sums.{fold-append, AllPass-from_list_all}
 use Rattle.std.proofs.lemmas.Bool.{ne_eqb}
@@ -25,7 +26,9 @@ use Rattle.termwiz_screen.proofs.Stored.{IsLawful}
 use Rattle.termwiz_screen.proofs.Runs.{PrintsCell, PrintsCell-plain, screen-from_wrap, kept-from_wrap, kept_after-append}
 use Rattle.termwiz_screen.proofs.LetterRuns.{PrintsCell-letter}
 use Rattle.termwiz_surface.proofs.Drawn.{IsSound-put, rows-put, lengths-put}
-use Rattle.termwiz_surface.proofs.RowNumbers.{marks-then}
+use Rattle.termwiz_surface.specs.Touching.{cursor_row, one_touches, touched_by, wrap_touches}
+use Rattle.termwiz_surface.proofs.Touching.{touched_by-append, touched-from_wrap}
+use Rattle.termwiz_surface.proofs.RowNumbers.{marks-alike, marks-then}
 
 module _ {W : Type 0} where
   -- the surface with one cell printed in its row
@@ -124,6 +127,46 @@ module _ {W : Type 0} (piece : ℕ → List ℕ) (cell : ℕ → Attributes → 
           kept = more.kept ∙ ap₂ (λ (z : Screen) (k : Kept). kept_after f z k (map piece bs)) (screen_more f lawful s sound (piece b) (cell b s.pen) first one) (kept_more f lawful s sound (piece b) (cell b s.pen) first one);
         })
 
+or-same : (b : Bool) → (b || b) ≡ b
+or-same true = refl
+or-same false = refl
+
+-- characters that fit in the row touch that row alone
+module _ (f : List ℕ → ℕ) (piece : ℕ → List ℕ) (cell : ℕ → Attributes → CellValue) (store : ℕ → List ℕ → Attributes → List CellValue → List CellValue) (taken : List ℕ → ℕ) (run : IsRun cell store taken) (j : ℕ) where
+  module _ (b : ℕ) (bs : List ℕ) (s : Screen) (fits : s.x + taken (b ∷ bs) ≤ s.width) (prints : All (λ b. PrintsCell f s.pen (piece b) (cell b s.pen)) (b ∷ bs)) where
+    first : PrintsCell f s.pen (piece b) (cell b s.pen)
+    first = prints 0 0 (omega arith)
+
+    settled : wraps s ≡ false
+    settled = let some : 0 < columns (cell b s.pen) = (columns_bounds (cell b s.pen)).0 in ne_eqb s.x s.width (omega (arith, run.more_taken b bs s.pen))
+
+    one-puts : print_one f s (piece b) ≡ put_at_cursor s (cell b s.pen)
+    one-puts =
+        let placed : print_one f s (piece b) ≡ put_at_cursor s (printed_cell f s.pen (piece b)) = rw (first.is_text, settled) refl in
+        placed ∙ ap (put_at_cursor s) first.cell_is
+
+    one-here : one_touches f s (piece b) j ≡ cursor_row s j
+    one-here = rw (first.is_text, settled) refl
+
+    -- the first character, and those behind it
+    run-first : touched_by f s (map piece (b ∷ bs)) j ≡ (cursor_row s j || touched_by f (put_at_cursor s (cell b s.pen)) (map piece bs) j)
+    run-first = ap₂ (λ (u : Bool) (z : Screen). u || touched_by f z (map piece bs) j) one-here one-puts
+
+    fits-behind : (put_at_cursor s (cell b s.pen)).x + taken bs ≤ s.width
+    fits-behind = omega (arith, run.more_taken b bs s.pen)
+
+  run-behind : (bs : List ℕ) (s : Screen) → s.x + taken bs ≤ s.width → All (λ b. PrintsCell f s.pen (piece b) (cell b s.pen)) bs → (cursor_row s j || touched_by f s (map piece bs) j) ≡ cursor_row s j
+  run-behind [] s fits prints = or-false (cursor_row s j)
+  run-behind (b ∷ bs) s fits prints =
+      ap (λ (u : Bool). cursor_row s j || u)
+      (run-first b bs s fits prints ∙ run-behind bs (put_at_cursor s (cell b s.pen)) (fits-behind b bs s fits prints) (λ k d l. prints (suc k) d (omega arith)))
+      ∙ or-same (cursor_row s j)
+
+  pub run-touches : (bs : List ℕ) (s : Screen) → 0 < length bs → s.x + taken bs ≤ s.width → All (λ b. PrintsCell f s.pen (piece b) (cell b s.pen)) bs → touched_by f s (map piece bs) j ≡ cursor_row s j
+  run-touches [] s some fits prints = absurd (omega arith)
+  run-touches (b ∷ bs) s some fits prints =
+      run-first b bs s fits prints ∙ run-behind bs (put_at_cursor s (cell b s.pen)) (fits-behind b bs s fits prints) (λ k d l. prints (suc k) d (omega arith))
+
 pub AllPrint-plain : (f : List ℕ → ℕ) (pen : Attributes) (bs : List ℕ) → list_all is_plain bs ≡ true → AreNarrow f bs → All (λ b. PrintsCell f pen (b ∷ []) (plain_cell b pen)) bs
 AllPrint-plain f pen bs plain narrow = λ k d l. PrintsCell-plain f pen (get_or bs k d) (AllPass-from_list_all is_plain bs plain k d l) (narrow k d l)
 
@@ -138,9 +181,23 @@ pub IsPrinted-letters : {W : Type 0} (f : List ℕ → ℕ) → IsLawful f → (
     → IsPrinted f s (map encode_utf8 ls) (with_run encode_utf8 letter_cell set_letters (λ ls. 2 * length ls) letter_run s ls)
 IsPrinted-letters f lawful ls s sound fits letters wide = IsPrinted-run encode_utf8 letter_cell set_letters (λ ls. 2 * length ls) letter_run f lawful ls s sound fits (AllPrint-letters f s.pen ls letters wide)
 
+-- one grapheme is printed
+pub prints-one : {W : Type 0} (f : List ℕ → ℕ) (old new : SurfaceValue W) (g : List ℕ) → Becomes old (print_one f (screen_of old) g) (one_kept f (screen_of old) g (kept_of old)) (one_touches f (screen_of old) g) new → PrintsGraphemes f old (g ∷ []) new
+prints-one f old new g b = record {
+  widths = b.widths;
+  width = b.width;
+  height = b.height;
+  full = b.full;
+  log = b.log;
+  screen_is = b.screen_is;
+  kept_is = b.kept_is;
+  mark = b.mark;
+  rows = marks-alike (one_touches f (screen_of old) g) (touched_by f (screen_of old) (g ∷ [])) old new (λ j. or-false (one_touches f (screen_of old) g j)) b.rows;
+}
+
 -- a run that is printed after the wrap is printed
 pub prints-after_wrap : {W : Type 0} (f : List ℕ → ℕ) (piece : ℕ → List ℕ) (cell : ℕ → CellValue) (old mid new : SurfaceValue W) (bs : List ℕ) → 0 < length bs → All (λ b. PrintsCell f old.pen (piece b) (cell b)) bs
-    → Becomes old (wrapped (screen_of old)) (wrapped_kept (screen_of old) (kept_of old)) mid → mid.x < mid.width → PrintsGraphemes f mid (map piece bs) new → PrintsGraphemes f old (map piece bs) new
+    → Becomes old (wrapped (screen_of old)) (wrapped_kept (screen_of old) (kept_of old)) (wrap_touches (screen_of old)) mid → mid.x < mid.width → PrintsGraphemes f mid (map piece bs) new → PrintsGraphemes f old (map piece bs) new
 prints-after_wrap f piece cell old mid new [] some prints d inside p = absurd (omega arith)
 prints-after_wrap f piece cell old mid new (b ∷ bs) some prints d inside p =
     let is_text = (prints 0 0 (omega arith)).is_text in
@@ -152,7 +209,9 @@ prints-after_wrap f piece cell old mid new (b ∷ bs) some prints d inside p =
       full = p.full ∙ d.full;
       log = p.log ∙ d.log;
       mark = p.mark ∙ d.mark;
-      rows = marks-then old mid new d.height d.mark d.rows p.rows;
+      rows = marks-alike _ (touched_by f (screen_of old) (map piece (b ∷ bs))) old new
+          (λ j. touched-from_wrap f (screen_of old) (kept_of old) (piece b) (map piece bs) is_text settled j ∙ ap (λ (z : Screen). wrap_touches (screen_of old) j || touched_by f z (map piece (b ∷ bs)) j) (sym d.screen_is))
+          (marks-then (wrap_touches (screen_of old)) (touched_by f (screen_of mid) (map piece (b ∷ bs))) old mid new d.height d.mark d.rows p.rows);
       screen_is = p.screen_is ∙ ap (λ (z : Screen). fold (print_one f) z (map piece (b ∷ bs))) d.screen_is ∙ screen-from_wrap f (screen_of old) (kept_of old) (piece b) (map piece bs) is_text settled;
       kept_is = p.kept_is ∙ ap₂ (λ (z : Screen) (k : Kept). kept_after f z k (map piece (b ∷ bs))) d.screen_is d.kept_is ∙ kept-from_wrap f (screen_of old) (kept_of old) (piece b) (map piece bs) is_text settled;
     }
@@ -168,3 +227,10 @@ module _ {W : Type 0} (f : List ℕ → ℕ) (old new : SurfaceValue W) (text re
   kept-left =
       ap₂ (λ (z : Screen) (k : Kept). kept_after f z k (graphemes true rest)) p.prints.screen_is p.prints.kept_is
       ∙ sym (ap (kept_after f (screen_of old) (kept_of old)) p.graphemes_are ∙ kept_after-append f (screen_of old) (kept_of old) p.printed (graphemes true rest))
+
+  -- and touches what is left of the rows
+  pub touched-left : (j : ℕ) → touched_by f (screen_of old) (graphemes true text) j ≡ (touched_by f (screen_of old) p.printed j || touched_by f (screen_of new) (graphemes true rest) j)
+  touched-left j =
+      ap (λ (gs : List (List ℕ)). touched_by f (screen_of old) gs j) p.graphemes_are
+      ∙ touched_by-append f (screen_of old) p.printed (graphemes true rest) j
+      ∙ ap (λ (z : Screen). touched_by f (screen_of old) p.printed j || touched_by f z (graphemes true rest) j) (sym p.prints.screen_is)

@@ -1,11 +1,12 @@
 -- Rows that changes leave, and those that they mark.
-use Rattle.std.proofs.Common.{◌≡◌, ℕ, ◌+◌, ◌<◌, ◌≤◌, true, false, inl, inr, ◌⊎◌, List, [], ◌++◌, ◌-◌, length, get_or, take, drop, replicate, refl, sym, ◌∙◌, ap, subst, arith, length-append, length-take, length-drop}
-use Rattle.std.specs.Prelude.{slice_set, max, Result, Ok, Err, OnOk, OnErr, ◌==◌}
+use Rattle.std.proofs.Common.{◌≡◌, ℕ, ◌+◌, ◌<◌, ◌≤◌, true, false, inl, inr, ◌⊎◌, List, [], ◌∷◌, ◌++◌, ◌-◌, length, get_or, take, drop, replicate, refl, sym, ◌∙◌, ap, subst, arith, length-append, length-take, length-drop}
+use Rattle.std.specs.Prelude.{slice_set, max, nat_le, nat_lt, Bool, ◌||◌, cond, Result, Ok, Err, OnOk, OnErr, ◌==◌}
 use Rattle.std.specs.Result.{is_err}
-use Rattle.std.proofs.lemmas.Bool.{cases_Bool, cases_eq, cases_lt, true≢false, eqb-true}
+use Rattle.std.proofs.lemmas.Bool.{cases_Bool, cases_eq, cases_lt, true≢false, eqb-true, eq-eqb, ne_eqb, lt-ltb, le-ltb, le-leb, lt-leb, or_left, or_right, or_from}
+use Rattle.std.proofs.Math.Bool.{or-false}
 use Rattle.std.proofs.lemmas.List.{length-set, get_or-set_same, get_or-set_other, get_or_past, get_or_append_left, get_or-append_right, get_or-drop, get_or-take, get_or-map, length-replicate, length-map, map-set}
 use Rattle.termwiz_cell.specs.ChangeValue.{ChangeValue}
-use Rattle.termwiz_cell.specs.CellValue.{CellValue}
+use Rattle.termwiz_cell.specs.CellValue.{CellValue, blank}
 use Rattle.termwiz_line.specs.LineFlags.{LineFlags, no_flags}
 use Rattle.termwiz_screen.specs.Log.{LogValue, next_number, appended, flushed, restarted}
 use Rattle.termwiz_screen.specs.Screen.{row_at}
@@ -13,34 +14,72 @@ use Rattle.termwiz_screen.specs.ScrollRegions.{with_region, region_up, region_do
 use Rattle.termwiz_screen.proofs.Logs.{flushed_number}
 use Rattle.termwiz_screen.proofs.Regions.{map-replicate}
 use Rattle.termwiz_surface.specs.Adding.{Makes, with_log}
-use Rattle.termwiz_surface.specs.RowNumbers.{AreMarked, NumbersRows}
+use Rattle.termwiz_surface.specs.RowNumbers.{AreMarked, NumbersRows, NumbersTouched}
 use Rattle.termwiz_screen.specs.Step.{replay, replay_kept}
-use Rattle.termwiz_surface.specs.Surface.{SurfaceValue, Becomes, MarksRows, RowStays, SameFrame, number_at, numbers_over, screen_of, kept_of}
+use Rattle.termwiz_surface.specs.Touching.{every_row, no_row, scroll_touches, touched}
+use Rattle.termwiz_surface.proofs.Touching.{or_assoc, up-none, down-none}
+use Rattle.termwiz_surface.specs.Surface.{SurfaceValue, Becomes, MarksRows, SameFrame, number_at, numbers_over, screen_of, kept_of, lengths_of}
 
 -- ---- numbers over one for all rows
 
 over-set : (all : ℕ) (own : List ℕ) (a number : ℕ) → a < length own → numbers_over all (slice_set own a number) ≡ slice_set (numbers_over all own) a (max all number)
 over-set all own a number l = map-set (max all) own a number
 
--- each is at least the one for all
+-- each is its own, unless the one for all is greater
+pub over-at : (all : ℕ) (own : List ℕ) (j : ℕ) → j < length own → get_or (numbers_over all own) j 0 ≡ max all (get_or own j 0)
+over-at all own j l = get_or-map (max all) own j 0 0 l
+
 pub over-least : (all : ℕ) (own : List ℕ) (j : ℕ) → j < length own → all ≤ get_or (numbers_over all own) j 0
-over-least all own j l = let at : get_or (numbers_over all own) j 0 ≡ max all (get_or own j 0) = get_or-map (max all) own j 0 0 l in omega (arith, at)
+over-least all own j l = omega (arith, over-at all own j l)
 
 -- no row has a number of its own
 pub over-zeros : (n number : ℕ) → numbers_over number (replicate n 0) ≡ replicate n number
 over-zeros n number = map-replicate (max number) n 0 ∙ ap (replicate n) (let e : max number 0 ≡ number = omega arith in e)
 
+-- the rows before this one have their numbers as their own, and those from it on have their own ones
+pub record OwnsNumbers (all : ℕ) (old : List ℕ) (i : ℕ) (own : List ℕ) : Type 0 where
+  pub count : length own ≡ length old
+  pub before : (j : ℕ) → j < i → get_or own j 0 ≡ get_or (numbers_over all old) j 0
+  pub behind : (j : ℕ) → i ≤ j → get_or own j 0 ≡ get_or old j 0
+
+pub owns-none : (all : ℕ) (old : List ℕ) → OwnsNumbers all old 0 old
+owns-none all old = record { count = refl; before = λ j l. absurd (omega arith); behind = λ j l. refl }
+
+pub owns-more : (all : ℕ) (old own : List ℕ) (i number : ℕ) → i < length own → number ≡ get_or (numbers_over all own) i 0 → OwnsNumbers all old i own → OwnsNumbers all old (i + 1) (slice_set own i number)
+owns-more all old own i number l e o = record {
+  count = length-set own i number ∙ o.count;
+  before = λ j below. elim (cases_eq j i) [
+    | inl same ↦ ap (λ k. get_or (slice_set own i number) k 0) same ∙ get_or-set_same own i number 0 l
+        ∙ (let is : number ≡ get_or (numbers_over all old) j 0 = rw same (e ∙ over-at all own i l ∙ ap (max all) (o.behind i (omega arith)) ∙ sym (over-at all old i (omega (arith, l, o.count)))) in is)
+    | inr other ↦ get_or-set_other own i j number 0 other ∙ o.before j (omega arith)
+  ];
+  behind = λ j above. get_or-set_other own i j number 0 (λ same. omega arith) ∙ o.behind j (omega arith);
+}
+
+pub owns-all : (all : ℕ) (old : List ℕ) (i : ℕ) (own : List ℕ) → length old ≤ i → OwnsNumbers all old i own → (j : ℕ) → get_or own j 0 ≡ get_or (numbers_over all old) j 0
+owns-all all old i own done o j = elim (cases_lt j i) [
+  | inl before ↦ o.before j before
+  | inr past ↦ get_or_past own j 0 (omega (arith, o.count)) ∙ sym (get_or_past (numbers_over all old) j 0 (omega (arith, length-map old (max all))))
+]
+
+-- one more row comes in
+pub comes-in : (own xs : List ℕ) (n : ℕ) → length own ≡ n → length xs ≤ n → ((j : ℕ) → j < n → get_or own j 0 ≡ get_or xs j 0) → (j : ℕ) → j < n + 1 → get_or (own ++ 0 ∷ []) j 0 ≡ get_or xs j 0
+comes-in own xs n e le same j l = elim (cases_lt j n) [
+  | inl before ↦ get_or_append_left own (0 ∷ []) 0 j (omega arith) ∙ same j before
+  | inr last ↦ get_or-append_right own (0 ∷ []) n j 0 e last ∙ (let zero : j - n ≡ 0 = omega arith in ap (λ k. get_or (0 ∷ []) k 0) zero) ∙ sym (get_or_past xs j 0 (omega arith))
+]
+
 -- one number
-pub marked-one : (all : ℕ) (own : List ℕ) (a number : ℕ) → a < length own → AreMarked a 1 number (numbers_over all own) (numbers_over all (slice_set own a number))
-marked-one all own a number l =
+pub marked-one : (all : ℕ) (own : List ℕ) (a number own_number : ℕ) → a < length own → own_number ≡ max (get_or own a 0) number → AreMarked a 1 number (numbers_over all own) (numbers_over all (slice_set own a own_number))
+marked-one all own a number own_number l e =
     let xs = numbers_over all own in
     let inside : a < length xs = omega (arith, l, length-map own (max all)) in
-    rw (over-set all own a number l) (record {
-      same_count = length-set xs a (max all number);
-      inside = λ j from to.
-          let at : get_or (slice_set xs a (max all number)) j 0 ≡ max all number = ap (λ k. get_or (slice_set xs a (max all number)) k 0) (let e : j ≡ a = omega arith in e) ∙ get_or-set_same xs a (max all number) 0 inside in
-          omega (arith, at);
-      outside = λ j out. get_or-set_other xs a j (max all number) 0 (λ e. elim out [
+    let written : get_or (slice_set xs a (max all own_number)) a 0 ≡ max number (get_or xs a 0) =
+    get_or-set_same xs a (max all own_number) 0 inside ∙ (let same : max all own_number ≡ max number (get_or xs a 0) = omega (arith, e, over-at all own a l) in same) in
+    rw (over-set all own a own_number l) (record {
+      same_count = length-set xs a (max all own_number);
+      inside = λ j from to. subst (λ (k : ℕ). get_or (slice_set xs a (max all own_number)) k 0 ≡ max number (get_or xs k 0)) (let e : a ≡ j = omega arith in e) written;
+      outside = λ j out. get_or-set_other xs a j (max all own_number) 0 (λ e. elim out [
         | inl before ↦ omega arith
         | inr behind ↦ omega arith
       ]);
@@ -59,8 +98,8 @@ pub marked-more : (xs ys zs : List ℕ) (a row number : ℕ) → a ≤ row → A
 marked-more xs ys zs a row number from m one = record {
   same_count = one.same_count ∙ m.same_count;
   inside = λ j after to. elim (cases_eq j row) [
-    | inl e ↦ one.inside j (omega (arith, e)) (omega (arith, e))
-    | inr other ↦ let same : get_or zs j 0 ≡ get_or ys j 0 = one.outside j (inl (omega arith)) in omega (arith, same, m.inside j after (omega arith))
+    | inl e ↦ one.inside j (omega (arith, e)) (omega (arith, e)) ∙ ap (max number) (m.outside j (inr (omega (arith, e))))
+    | inr other ↦ one.outside j (inl (omega arith)) ∙ m.inside j after (omega arith)
   ];
   outside = λ j out. elim out [
     | inl before ↦ one.outside j (inl (omega arith)) ∙ m.outside j (inl before)
@@ -69,36 +108,69 @@ marked-more xs ys zs a row number from m one = record {
 }
 
 -- all rows
-pub marked-all : (all number : ℕ) (own : List ℕ) (n : ℕ) → length own ≡ n → AreMarked 0 n number (numbers_over all own) (numbers_over number own)
-marked-all all number own n e =
+pub marked-all : (all number more : ℕ) (own : List ℕ) (n : ℕ) → length own ≡ n → more ≡ max all number → AreMarked 0 n number (numbers_over all own) (numbers_over more own)
+marked-all all number more own n e is =
     let old : length (numbers_over all own) ≡ n = length-map own (max all) ∙ e in
-    let new : length (numbers_over number own) ≡ n = length-map own (max number) ∙ e in
+    let new : length (numbers_over more own) ≡ n = length-map own (max more) ∙ e in
     record {
       same_count = new ∙ sym old;
-      inside = λ j from to. over-least number own j (omega (arith, to, e));
+      inside = λ j from to. let there : j < length own = omega (arith, to, e) in omega (arith, is, over-at all own j there, over-at more own j there);
       outside = λ j out. elim out [
         | inl before ↦ absurd (omega arith)
-        | inr behind ↦ get_or_past (numbers_over number own) j 0 (omega (arith, new)) ∙ sym (get_or_past (numbers_over all own) j 0 (omega (arith, old)))
+        | inr behind ↦ get_or_past (numbers_over more own) j 0 (omega (arith, new)) ∙ sym (get_or_past (numbers_over all own) j 0 (omega (arith, old)))
       ];
     }
 
 module _ {W : Type 0} where
   -- nothing has changed
-  pub marks-none : (s : SurfaceValue W) → MarksRows s s
-  marks-none s = λ j l. inr (refl, refl, refl)
+  pub marks-none : (s : SurfaceValue W) → MarksRows no_row s s
+  marks-none s = record { each = λ j l. inr (refl, (refl, refl, refl)) }
+
+  -- the same rows by another test
+  pub marks-alike : (u v : ℕ → Bool) (r s : SurfaceValue W) → ((j : ℕ) → v j ≡ u j) → MarksRows u r s → MarksRows v r s
+  marks-alike u v r s same m = record {
+    each = λ j l. elim (m.each j l) [
+      | inl is ↦ inl (same j ∙ is.0, is.1)
+      | inr stays ↦ inr (same j ∙ stays.0, stays.1)
+    ];
+  }
 
   -- two steps
-  pub marks-then : (r s t : SurfaceValue W) → s.height ≡ r.height → s.mark ≡ r.mark → MarksRows r s → MarksRows s t → MarksRows r t
-  marks-then r s t height mark first second = λ j l. elim (second j (subst (λ (h : ℕ). j < h) (sym height) l)) [
-    | inl is ↦ inl (omega (arith, is, mark))
-    | inr stays ↦ elim (first j l) [
-      | inl is ↦ inl (omega (arith, is, stays.2))
-      | inr stayed ↦ inr (stays.0 ∙ stayed.0, stays.1 ∙ stayed.1, stays.2 ∙ stayed.2)
-    ]
-  ]
+  pub marks-then : (u v : ℕ → Bool) (r s t : SurfaceValue W) → s.height ≡ r.height → s.mark ≡ r.mark → MarksRows u r s → MarksRows v s t → MarksRows (λ j. u j || v j) r t
+  marks-then u v r s t height mark first second = record {
+    each = λ j l. elim (second.each j (subst (λ (h : ℕ). j < h) (sym height) l)) [
+      | inl is ↦ elim (first.each j l) [
+        | inl was ↦ inl (or_left (u j) (v j) was.0, omega (arith, is.1, was.1, mark))
+        | inr stayed ↦ inl (or_right (u j) (v j) is.0, omega (arith, is.1, stayed.1.2, mark))
+      ]
+      | inr stays ↦ elim (first.each j l) [
+        | inl was ↦ inl (or_left (u j) (v j) was.0, stays.1.2 ∙ was.1)
+        | inr stayed ↦ inr (or_from (u j) (v j) stayed.0 stays.0, (stays.1.0 ∙ stayed.1.0, stays.1.1 ∙ stayed.1.1, stays.1.2 ∙ stayed.1.2))
+      ]
+    ];
+  }
+
+  -- of the rows that steps touch, some are marked, and those that the steps left touch are not yet
+  pub record MarksSome (all left : ℕ → Bool) (old new : SurfaceValue W) : Type 0 where
+    pub done : ℕ → Bool
+    pub marks : MarksRows done old new
+    pub both : (j : ℕ) → all j ≡ (done j || left j)
+
+  pub some-none : (all : ℕ → Bool) (s : SurfaceValue W) → MarksSome all all s s
+  some-none all s = record { done = no_row; marks = marks-none s; both = λ j. refl }
+
+  pub some-more : (all left now rest : ℕ → Bool) (r s t : SurfaceValue W) → s.height ≡ r.height → s.mark ≡ r.mark → ((j : ℕ) → left j ≡ (now j || rest j)) → MarksSome all left r s → MarksRows now s t → MarksSome all rest r t
+  some-more all left now rest r s t height mark is m next = record {
+    done = λ j. m.done j || now j;
+    marks = marks-then m.done now r s t height mark m.marks next;
+    both = λ j. m.both j ∙ ap (λ b. m.done j || b) (is j) ∙ sym (or_assoc (m.done j) (now j) (rest j));
+  }
+
+  pub some-all : (all left : ℕ → Bool) (r s : SurfaceValue W) → ((j : ℕ) → left j ≡ false) → MarksSome all left r s → MarksRows all r s
+  some-all all left r s none m = marks-alike m.done all r s (λ j. m.both j ∙ ap (λ b. m.done j || b) (none j) ∙ or-false (m.done j)) m.marks
 
 -- the rows before and behind a region
-abbrev IsOutside : ℕ → ℕ → ℕ → Type 0
+abbrev pub IsOutside : ℕ → ℕ → ℕ → Type 0
 IsOutside a n j = (j < a) ⊎ (a + n ≤ j)
 
 -- the elements of a region are others, and those outside stay
@@ -121,47 +193,83 @@ module _ {X : Type 0} (d : X) (xs : List X) (a n k j : ℕ) (e : X) (inside : a 
   pub down-outside : get_or (region_down d xs a n k) j e ≡ get_or xs j e
   down-outside = region-outside xs _ a n j e inside (simp (length-append, length-drop, length-take, length-replicate) (omega arith)) out
 
-module _ (height a n mark : ℕ) (numbers marked : List ℕ) (lines lines' : List (List CellValue)) (flags flags' : List LineFlags) (m : AreMarked a n mark numbers marked) where
-  -- each row is marked, or has its cells, flags and number
-  abbrev Marked : Type 0
-  Marked = (j : ℕ) → j < height → (mark ≤ get_or marked j 0) ⊎ ((row_at lines' j ≡ row_at lines j) × (get_or flags' j no_flags ≡ get_or flags j no_flags) × (get_or marked j 0 ≡ get_or numbers j 0))
+-- of so many rows the test holds for those from a on, n of them
+pub record AreRange (touched : ℕ → Bool) (height a n : ℕ) : Type 0 where
+  pub each : (j : ℕ) → j < height → ((touched j ≡ true) × (a ≤ j) × (j < a + n)) ⊎ ((touched j ≡ false) × IsOutside a n j)
 
+range-one : (height y : ℕ) → AreRange (λ j. j == y) height y 1
+range-one height y = record {
+  each = λ j l. elim (cases_eq j y) [
+    | inl e ↦ inl (eq-eqb j y e, omega arith, omega arith)
+    | inr other ↦ inr (
+      ne_eqb j y other,
+      elim (cases_lt j y) [
+        | inl before ↦ inl before
+        | inr from ↦ inr (omega arith)
+      ],
+    )
+  ];
+}
+
+pub range-from : (height y : ℕ) → AreRange (λ j. nat_le y j) height y (height - y)
+range-from height y = record {
+  each = λ j l. elim (cases_lt j y) [
+    | inl before ↦ inr (lt-leb y j before, inl before)
+    | inr from ↦ inl (le-leb y j from, from, omega arith)
+  ];
+}
+
+pub range-scroll : (height first size count : ℕ) → 0 < count → AreRange (scroll_touches first size count) height first size
+range-scroll height first size count some = record {
+  each = λ j l.
+      let moves : nat_lt 0 count ≡ true = lt-ltb 0 count some in
+      elim (cases_lt j first) [
+        | inl before ↦ inr (rw (moves, lt-leb first j before) refl, inl before)
+        | inr from ↦ elim (cases_lt j (first + size)) [
+          | inl inner ↦ inl (rw (moves, le-leb first j from, lt-ltb j (first + size) inner) refl, from, inner)
+          | inr behind ↦ inr (rw (moves, le-leb first j from, le-ltb j (first + size) behind) refl, inr behind)
+        ]
+      ];
+}
+
+module _ {W : Type 0} where
   -- rows from a on, n of them, are marked, and the others stay
-  pub marks-rows : ((j : ℕ) → IsOutside a n j → row_at lines' j ≡ row_at lines j) → ((j : ℕ) → IsOutside a n j → get_or flags' j no_flags ≡ get_or flags j no_flags) → Marked
-  marks-rows lines_stay flags_stay = λ j l. elim (cases_lt j a) [
-    | inl before ↦ inr (lines_stay j (inl before), flags_stay j (inl before), m.outside j (inl before))
-    | inr from ↦ elim (cases_lt j (a + n)) [
-      | inl inner ↦ inl (m.inside j from inner)
-      | inr behind ↦ inr (lines_stay j (inr behind), flags_stay j (inr behind), m.outside j (inr behind))
-    ]
-  ]
+  pub marks-range : (touched : ℕ → Bool) (old new : SurfaceValue W) (a n : ℕ) → AreRange touched old.height a n → AreMarked a n old.mark old.numbers new.numbers
+      → ((j : ℕ) → IsOutside a n j → row_at new.lines j ≡ row_at old.lines j) → ((j : ℕ) → IsOutside a n j → get_or new.flags j no_flags ≡ get_or old.flags j no_flags) → MarksRows touched old new
+  marks-range touched old new a n range m lines flags = record {
+    each = λ j l. elim (range.each j l) [
+      | inl is ↦ inl (is.0, m.inside j is.1 is.2)
+      | inr out ↦ inr (out.0, (lines j out.1, flags j out.1, m.outside j out.1))
+    ];
+  }
 
--- one row has other cells
-pub marks-row : (height y mark : ℕ) (numbers marked : List ℕ) (lines : List (List CellValue)) (row : List CellValue) (flags : List LineFlags) (m : AreMarked y 1 mark numbers marked) → Marked height y 1 mark numbers marked lines (slice_set lines y row) flags flags m
-marks-row height y mark numbers marked lines row flags m = marks-rows height y 1 mark numbers marked lines (slice_set lines y row) flags flags m
-    (λ j out. get_or-set_other lines y j row [] (λ e. elim out [
-      | inl before ↦ omega arith
-      | inr behind ↦ omega arith
-    ]))
-    (λ j out. refl)
+  -- one row is marked, and the others stay
+  pub marks-one : (y : ℕ) (old new : SurfaceValue W) → AreMarked y 1 old.mark old.numbers new.numbers
+      → ((j : ℕ) → IsOutside y 1 j → row_at new.lines j ≡ row_at old.lines j) → ((j : ℕ) → IsOutside y 1 j → get_or new.flags j no_flags ≡ get_or old.flags j no_flags) → MarksRows (λ j. j == y) old new
+  marks-one y old new = marks-range (λ j. j == y) old new y 1 (range-one old.height y)
 
--- one row has other flags
-pub marks-flags : (height y mark : ℕ) (numbers marked : List ℕ) (lines : List (List CellValue)) (flags : List LineFlags) (own : LineFlags) (m : AreMarked y 1 mark numbers marked) → Marked height y 1 mark numbers marked lines lines flags (slice_set flags y own) m
-marks-flags height y mark numbers marked lines flags own m = marks-rows height y 1 mark numbers marked lines lines flags (slice_set flags y own) m
-    (λ j out. refl)
-    (λ j out. get_or-set_other flags y j own no_flags (λ e. elim out [
-      | inl before ↦ omega arith
-      | inr behind ↦ omega arith
-    ]))
+  -- all rows are marked
+  pub marks-all : (n : ℕ) (old new : SurfaceValue W) → old.height ≤ n → AreMarked 0 n old.mark old.numbers new.numbers → MarksRows every_row old new
+  marks-all n old new all m = record { each = λ j l. inl (refl, m.inside j (omega arith) (omega arith)) }
 
--- all rows are marked
-pub marks-all : (height n mark : ℕ) (numbers marked : List ℕ) (lines lines' : List (List CellValue)) (flags flags' : List LineFlags) → height ≤ n → (m : AreMarked 0 n mark numbers marked) → Marked height 0 n mark numbers marked lines lines' flags flags' m
-marks-all height n mark numbers marked lines lines' flags flags' all m = λ j l. inl (m.inside j (omega arith) (omega arith))
+-- one element is another, and the others stay
+pub set-outside : {X : Type 0} (xs : List X) (y : ℕ) (x d : X) (j : ℕ) → IsOutside y 1 j → get_or (slice_set xs y x) j d ≡ get_or xs j d
+set-outside xs y x d j out = get_or-set_other xs y j x d (λ same. elim out [
+  | inl before ↦ omega arith
+  | inr behind ↦ omega arith
+])
+
+module _ {W : Type 0} where
+  -- one row has other cells
+  pub marks-set : (y : ℕ) (old new : SurfaceValue W) (row : List CellValue) → AreMarked y 1 old.mark old.numbers new.numbers → new.lines ≡ slice_set old.lines y row → new.flags ≡ old.flags → MarksRows (λ j. j == y) old new
+  marks-set y old new row m lines flags = marks-one y old new m
+      (λ j out. ap (λ (ls : List (List CellValue)). row_at ls j) lines ∙ set-outside old.lines y row [] j out)
+      (λ j out. ap (λ (fs : List LineFlags). get_or fs j no_flags) flags)
 
 module _ {W : Type 0} where
   -- changes were made under the number that the list has, and then logged
   pub makes-logged : (f : List ℕ → ℕ) (s m : SurfaceValue W) (cs : List ChangeValue) (mark : ℕ) (log : LogValue) → mark ≡ next_number s.log + length cs → log ≡ appended s.log cs
-      → Becomes (record s { mark = mark }) (replay f (screen_of s) cs) (replay_kept f (screen_of s) (kept_of s) cs) m → Makes f s cs (with_log m log)
+      → Becomes (record s { mark = mark }) (replay f (screen_of s) cs) (replay_kept f (screen_of s) (kept_of s) cs) (touched f (screen_of s) cs) m → Makes f s cs (with_log m log)
   makes-logged f s m cs mark log e is b =
       let number : mark ≡ next_number (appended s.log cs) = omega (arith, e, length-append s.log.changes cs) in
       record {
@@ -173,8 +281,50 @@ module _ {W : Type 0} where
         screen_is = b.screen_is;
         kept_is = b.kept_is;
         mark = b.mark ∙ number;
-        rows = subst (λ (k : ℕ). (j : ℕ) → j < s.height → (k ≤ number_at m j) ⊎ RowStays s m j) number b.rows;
+        rows = record {
+          each = λ j l. elim (b.rows.each j l) [
+            | inl is ↦ inl (is.0, is.1 ∙ ap (λ k. max k (number_at s j)) number)
+            | inr stays ↦ inr stays
+          ];
+        };
       }
+
+-- a scroll by 0 rows leaves the surface
+module _ {W : Type 0} (s : SurfaceValue W) (first size count : ℕ) (e : count ≡ 0) where
+  marks-still : MarksRows (scroll_touches first size count) s s
+  marks-still = marks-alike no_row (scroll_touches first size count) s s (λ j. ap (λ k. scroll_touches first size k j) e) (marks-none s)
+
+  pub up-still : Becomes s (record (screen_of s) { rows = region_up (replicate s.width blank) (screen_of s).rows first size count }) (record (kept_of s) { lengths = region_up s.width (lengths_of s) first size count; flags = region_up no_flags s.flags first size count }) (scroll_touches first size count) s
+  up-still = record {
+    widths = refl;
+    width = refl;
+    height = refl;
+    full = refl;
+    log = refl;
+    screen_is = λ i. record (screen_of s) { rows = sym (up-none (replicate s.width blank) (screen_of s).rows first size count e) i };
+    kept_is = λ i. record (kept_of s) {
+      lengths = sym (up-none s.width (lengths_of s) first size count e) i;
+      flags = sym (up-none no_flags s.flags first size count e) i;
+    };
+    mark = refl;
+    rows = marks-still;
+  }
+
+  pub down-still : Becomes s (record (screen_of s) { rows = region_down (replicate s.width blank) (screen_of s).rows first size count }) (record (kept_of s) { lengths = region_down s.width (lengths_of s) first size count; flags = region_down no_flags s.flags first size count }) (scroll_touches first size count) s
+  down-still = record {
+    widths = refl;
+    width = refl;
+    height = refl;
+    full = refl;
+    log = refl;
+    screen_is = λ i. record (screen_of s) { rows = sym (down-none (replicate s.width blank) (screen_of s).rows first size count e) i };
+    kept_is = λ i. record (kept_of s) {
+      lengths = sym (down-none s.width (lengths_of s) first size count e) i;
+      flags = sym (down-none no_flags s.flags first size count e) i;
+    };
+    mark = refl;
+    rows = marks-still;
+  }
 
 -- ---- what the numbers say
 
@@ -213,9 +363,9 @@ module _ {W : Type 0} where
   numbers-makes f s t cs some m =
       let number : next_number (appended s.log cs) ≡ next_number s.log + length cs = omega (arith, length-append s.log.changes cs) in
       record {
-        stayed = λ n j positive known l le. elim (m.rows j (subst (λ (h : ℕ). j < h) m.height l)) [
-          | inl is ↦ let above : n < number_at t j = omega (arith, is, number, known, some) in absurd (omega (arith, above, le))
-          | inr stays ↦ (m.width, m.height, stays)
+        stayed = λ n j positive known l le. elim (m.rows.each j (subst (λ (h : ℕ). j < h) m.height l)) [
+          | inl is ↦ let above : n < number_at t j = omega (arith, is.1, number, known, some) in absurd (omega (arith, above, le))
+          | inr stays ↦ (m.width, m.height, stays.1)
         ];
         grows = omega (arith, number, ap next_number m.log);
       }
@@ -235,6 +385,18 @@ module _ {W : Type 0} where
     stayed = λ n j some known l below. (refl, refl, (refl, refl, refl));
     grows = le;
   })
+
+  -- the numbers of rows after changes
+  pub numbers-touched : (f : List ℕ → ℕ) (s t : SurfaceValue W) (cs : List ChangeValue) → Makes f s cs t → NumbersTouched f s cs t
+  numbers-touched f s t cs m = λ j l.
+      let number : next_number (appended s.log cs) ≡ next_number t.log = sym (ap next_number m.log) in
+      elim (m.rows.each j l) [
+        | inl is ↦ rw is.0 (is.1 ∙ ap (λ n. max n (number_at s j)) number)
+        | inr stays ↦ rw stays.0 stays.1.2
+      ]
+
+  pub numbers-flushed_touched : (f : List ℕ → ℕ) (s t : SurfaceValue W) (cs : List ChangeValue) (k : ℕ) → Makes f s cs t → NumbersTouched f s cs (with_log t (flushed t.log k))
+  numbers-flushed_touched f s t cs k m = λ j l. numbers-touched f s t cs m j l ∙ ap (λ n. cond (touched f (screen_of s) cs j) (max n (number_at s j)) (number_at s j)) (sym (flushed_number t.log k))
 
   -- a call that makes changes succeeded, or it failed, and then the log was emptied
   pub numbers-made : {E : Type 0} (f : List ℕ → ℕ) (s t : SurfaceValue W) (cs : List ChangeValue) (result : Result (Unit {0}) E) → is_err result ≡ false → (length cs ≡ 0 → NumbersRows s t) → OnOk result (Makes f s cs t) → NumbersRows s t

@@ -1,10 +1,10 @@
 -- Rows that scroll off, and the lines that then hold them.
-use Rattle.std.proofs.Common.{◌≡◌, ℕ, suc, ◌+◌, ◌-◌, ◌<◌, ◌≤◌, true, false, inl, inr, ◌⊎◌, min, List, [], ◌∷◌, ◌++◌, length, get_or, map, drop, take, set, replicate, fold, refl, sym, ◌∙◌, ap, ap₂, subst, arith, append_assoc, append-nil, drop-set-lt, length-append, length-drop}
+use Rattle.std.proofs.Common.{◌≡◌, ℕ, suc, ◌+◌, ◌-◌, ◌<◌, ◌≤◌, true, false, inl, inr, min, List, [], ◌∷◌, ◌++◌, length, get_or, map, drop, take, set, replicate, fold, refl, sym, ◌∙◌, ap, ap₂, subst, arith, append_assoc, append-nil, drop-set-lt, length-append, length-drop}
 use Rattle.std.specs.List.{All, concat}
 use Rattle.std.specs.Str.{IsUtf8}
-use Rattle.std.specs.Prelude.{◌==◌, nat_le, Result, Ok, Err, OnErr}
+use Rattle.std.specs.Prelude.{◌==◌, ◌||◌, nat_le, nat_lt, Result, Ok, Err, OnErr}
 use Rattle.std.specs.Result.{is_err}
-use Rattle.std.proofs.lemmas.Bool.{cases_Bool, cases_eq, true≢false, and_parts, ne_eqb, eq-eqb, le-leb, lt-leb}
+use Rattle.std.proofs.lemmas.Bool.{cases_Bool, cases_eq, true≢false, and_parts, ne_eqb, eq-eqb, le-leb, lt-leb, or_left, or_right}
 use Rattle.std.proofs.lemmas.List.{map-append, length-set, get_or-set_same, get_or-set_other, get_or-append_right, get_or-drop, map-set, length-map, take_more, length-replicate, drop_at, drop-drop, drop-take, at_drop_more}
 use Rattle.unicode_segmentation.specs.Grapheme.{graphemes}
 use Rattle.unicode_segmentation.proofs.SegmentsLemmas.{concat-segments}
@@ -28,12 +28,14 @@ use Rattle.termwiz_cell.specs.ChangeValue.{ChangeValue}
 use Rattle.termwiz_screen.specs.Step.{step, step_kept, replay, replay_kept, region_fits, regions_fit}
 use Rattle.termwiz_surface.specs.Printing.{PrintsFirst}
 use Rattle.termwiz_surface.specs.ScrolledOff.{KeepsLines, LeavesRows, ScrollsOff, first_leaves, left_behind_first, left_by, left_one, left_step, moves_down, rows_scrolled_off, top_leaves, topped}
-use Rattle.termwiz_surface.specs.Surface.{SurfaceValue, IsSound, SameFrame, MarksRows, Becomes, screen_of, kept_of, lengths_of}
+use Rattle.termwiz_surface.specs.Surface.{SurfaceValue, IsSound, SameFrame, Becomes, screen_of, kept_of, lengths_of}
 use Rattle.termwiz_line.proofs.StoredRows.{row_blank}
 use Rattle.termwiz_screen.proofs.Stored.{IsLawful}
 use Rattle.termwiz_surface.proofs.Drawn.{any_flags, any_numbers, IsSound-partly_reset}
 use Rattle.termwiz_surface.proofs.Printing.{IsRun}
-use Rattle.termwiz_surface.proofs.RowNumbers.{marks-none, marks-then}
+use Rattle.termwiz_surface.specs.Touching.{one_touches, piece_touches, scroll_touches, touched, touched_by, touches}
+use Rattle.termwiz_surface.proofs.Touching.{below-more, scroll-over}
+use Rattle.termwiz_surface.proofs.RowNumbers.{MarksSome, marks-alike, marks-then, some-all, some-more, some-none}
 
 -- ---- lists of lines
 
@@ -214,6 +216,13 @@ module _ (s : Screen) where
   piece-blanked CarriageReturnLineFeed h = ap returned (down-blanked (last_row CarriageReturnLineFeed h))
   piece-blanked (Cell c) h = ap (λ (z : Screen). put_at_cursor z c) (wrapped-blanked c h)
 
+  -- what scrolls touches every row
+  top-touches : (p : Piece) (j : ℕ) → top_leaves s p ≡ true → piece_touches s p j ≡ true
+  top-touches CarriageReturn j h = absurd (no_return h)
+  top-touches LineFeed j h = rw (last_row LineFeed h) refl
+  top-touches CarriageReturnLineFeed j h = rw (last_row CarriageReturnLineFeed h) refl
+  top-touches (Cell c) j h = rw (wrap_is c h, last_row (Cell c) h) refl
+
   module _ (k : Kept) where
     kept-blanked : has_below s ≡ false → down_kept (blanked s) (blanked_kept s k) ≡ down_kept s k
     kept-blanked last =
@@ -229,6 +238,13 @@ module _ (s : Screen) where
     piece_kept-blanked LineFeed h = kept-blanked (last_row LineFeed h)
     piece_kept-blanked CarriageReturnLineFeed h = kept-blanked (last_row CarriageReturnLineFeed h)
     piece_kept-blanked (Cell c) h = ap₂ (λ (z : Screen) (m : Kept). put_kept z c m) (wrapped-blanked c h) (wrapped_kept-blanked c h)
+
+-- nor does it matter whether row 0 was touched before
+touched-blanked : (f : List ℕ → ℕ) (s : Screen) (g : List ℕ) (gs : List (List ℕ)) (j : ℕ) → top_leaves s (piece_of f s.pen g) ≡ true → touched_by f s (g ∷ gs) j ≡ (j == 0 || touched_by f (blanked s) (g ∷ gs) j)
+touched-blanked f s g gs j h =
+    or_left (one_touches f s g j) (touched_by f (print_one f s g) gs j) (top-touches s (piece_of f s.pen g) j h)
+    ∙ sym (or_right (j == 0) (touched_by f (blanked s) (g ∷ gs) j)
+    (or_left (one_touches f (blanked s) g j) (touched_by f (print_one f (blanked s) g) gs j) (top-touches (blanked s) (piece_of f s.pen g) j h)))
 
 module _ (f : List ℕ → ℕ) (s : Screen) where
   left-top : (gs : List (List ℕ)) → first_leaves f s gs ≡ true → left_by f s gs ≡ row_at s.rows 0 ∷ left_behind_first f (blanked s) gs
@@ -250,7 +266,7 @@ module _ (f : List ℕ → ℕ) (s : Screen) where
 
 -- what is printed over a blank row 0 is printed over the old one
 module _ {W : Type 0} (f : List ℕ → ℕ) (old mid new : SurfaceValue W) (text rest : List ℕ) (is_text : IsUtf8 text)
-    (d : Becomes old (blanked (screen_of old)) (blanked_kept (screen_of old) (kept_of old)) mid) (h : first_leaves f (screen_of old) (graphemes true text) ≡ true) (p : PrintsFirst f mid text rest new) where
+    (d : Becomes old (blanked (screen_of old)) (blanked_kept (screen_of old) (kept_of old)) (λ j. j == 0) mid) (h : first_leaves f (screen_of old) (graphemes true text) ≡ true) (p : PrintsFirst f mid text rest new) where
   prints-over : (gs : List (List ℕ)) → p.printed ≡ gs → PrintsFirst f old text rest new
   prints-over [] e =
       let same : graphemes true text ≡ graphemes true rest = p.graphemes_are ∙ ap (λ (t : List (List ℕ)). t ++ graphemes true rest) e in
@@ -271,7 +287,9 @@ module _ {W : Type 0} (f : List ℕ → ℕ) (old mid new : SurfaceValue W) (tex
           full = p.prints.full ∙ d.full;
           log = p.prints.log ∙ d.log;
           mark = p.prints.mark ∙ d.mark;
-          rows = marks-then old mid new d.height d.mark d.rows p.prints.rows;
+          rows = marks-alike _ (touched_by f s (g ∷ gs)) old new
+              (λ j. touched-blanked f s g gs j leaves ∙ ap₂ (λ (z : Screen) (hs : List (List ℕ)). j == 0 || touched_by f z hs j) (sym d.screen_is) (sym e))
+              (marks-then (λ j. j == 0) (touched_by f (screen_of mid) p.printed) old mid new d.height d.mark d.rows p.prints.rows);
           screen_is = p.prints.screen_is
               ∙ ap₂ (λ (z : Screen) (hs : List (List ℕ)). fold (print_one f) z hs) d.screen_is e
               ∙ ap (λ (z : Screen). fold (print_one f) z gs) (piece-blanked s (piece_of f s.pen g) leaves);
@@ -298,13 +316,6 @@ reset-one d xs i inside = record {
     | inr other ↦ inl (get_or-set_other xs i j d z other)
   ];
 }
-
--- the others stay
-pub set-outside : {X : Type 0} (xs : List X) (a j : ℕ) (y e : X) → (j < a) ⊎ (a + 1 ≤ j) → get_or (set xs a y) j e ≡ get_or xs j e
-set-outside xs a j y e out = get_or-set_other xs a j y e (λ same. elim out [
-  | inl before ↦ omega arith
-  | inr behind ↦ omega arith
-])
 
 pub rows-set : (w : ℕ) (lines : List (List CellValue)) (i : ℕ) → map (row_of w) (set lines i (replicate w blank)) ≡ set (map (row_of w) lines) i (replicate w blank)
 rows-set w lines i = map-set (row_of w) lines i (replicate w blank) ∙ ap (set (map (row_of w) lines) i) (row_blank w)
@@ -351,7 +362,7 @@ region-topped_at : {X : Type 0} (d : X) (xs : List X) (n k m : ℕ) → m ≡ mi
 region-topped_at d xs n k m e = ap (λ j. region_up d (topped d j xs) 0 n k) e ∙ region-topped d xs n k
 
 module _ {W : Type 0} (f : List ℕ → ℕ) (r s t : SurfaceValue W) (n : ℕ) (sound : IsSound f s) (inside : n < s.height)
-    (a : Becomes r (record (screen_of r) { rows = topped (replicate r.width blank) n (screen_of r).rows }) (record (kept_of r) { lengths = topped r.width n (lengths_of r); flags = topped no_flags n r.flags }) s) where
+    (a : Becomes r (record (screen_of r) { rows = topped (replicate r.width blank) n (screen_of r).rows }) (record (kept_of r) { lengths = topped r.width n (lengths_of r); flags = topped no_flags n r.flags }) (λ j. nat_lt j n) s) where
   rows_s : (screen_of s).rows ≡ topped (replicate r.width blank) n (screen_of r).rows
   rows_s = ap (λ (z : Screen). z.rows) a.screen_is
 
@@ -359,8 +370,8 @@ module _ {W : Type 0} (f : List ℕ → ℕ) (r s t : SurfaceValue W) (n : ℕ) 
   within = omega (arith, ap length rows_s, length-map s.lines (row_of s.width), sound.full, inside)
 
   -- one more row is taken
-  pub taken-more : Becomes s (record (screen_of s) { rows = set (screen_of s).rows n (replicate s.width blank) }) (record (kept_of s) { lengths = set (lengths_of s) n s.width; flags = set s.flags n no_flags }) t
-      → Becomes r (record (screen_of r) { rows = topped (replicate r.width blank) (n + 1) (screen_of r).rows }) (record (kept_of r) { lengths = topped r.width (n + 1) (lengths_of r); flags = topped no_flags (n + 1) r.flags }) t
+  pub taken-more : Becomes s (record (screen_of s) { rows = set (screen_of s).rows n (replicate s.width blank) }) (record (kept_of s) { lengths = set (lengths_of s) n s.width; flags = set s.flags n no_flags }) (λ j. j == n) t
+      → Becomes r (record (screen_of r) { rows = topped (replicate r.width blank) (n + 1) (screen_of r).rows }) (record (kept_of r) { lengths = topped r.width (n + 1) (lengths_of r); flags = topped no_flags (n + 1) r.flags }) (λ j. nat_lt j (n + 1)) t
   taken-more b =
       let lengths_s : lengths_of s ≡ topped r.width n (lengths_of r) = ap (λ (k : Kept). k.lengths) a.kept_is in
       let flags_s : s.flags ≡ topped no_flags n r.flags = ap (λ (k : Kept). k.flags) a.kept_is in
@@ -374,7 +385,7 @@ module _ {W : Type 0} (f : List ℕ → ℕ) (r s t : SurfaceValue W) (n : ℕ) 
         full = b.full ∙ a.full;
         log = b.log ∙ a.log;
         mark = b.mark ∙ a.mark;
-        rows = marks-then r s t a.height a.mark a.rows b.rows;
+        rows = marks-alike _ (λ j. nat_lt j (n + 1)) r t (below-more n) (marks-then (λ j. nat_lt j n) (λ j. j == n) r s t a.height a.mark a.rows b.rows);
         screen_is = b.screen_is
             ∙ ap (λ (z : Screen). record z { rows = set z.rows n (replicate z.width blank) }) a.screen_is
             ∙ (λ i. record (screen_of r) { rows = rows i });
@@ -393,9 +404,9 @@ module _ {W : Type 0} (f : List ℕ → ℕ) (r s t : SurfaceValue W) (n : ℕ) 
 
 -- the rows that a scroll of a region from row 0 on drops may be taken before
 module _ {W : Type 0} (r s t : SurfaceValue W) (n k m : ℕ) (e : m ≡ min k n) where
-  pub up-over : Becomes r (record (screen_of r) { rows = topped (replicate r.width blank) m (screen_of r).rows }) (record (kept_of r) { lengths = topped r.width m (lengths_of r); flags = topped no_flags m r.flags }) s
-      → Becomes s (record (screen_of s) { rows = region_up (replicate s.width blank) (screen_of s).rows 0 n k }) (record (kept_of s) { lengths = region_up s.width (lengths_of s) 0 n k; flags = region_up no_flags s.flags 0 n k }) t
-      → Becomes r (record (screen_of r) { rows = region_up (replicate r.width blank) (screen_of r).rows 0 n k }) (record (kept_of r) { lengths = region_up r.width (lengths_of r) 0 n k; flags = region_up no_flags r.flags 0 n k }) t
+  pub up-over : Becomes r (record (screen_of r) { rows = topped (replicate r.width blank) m (screen_of r).rows }) (record (kept_of r) { lengths = topped r.width m (lengths_of r); flags = topped no_flags m r.flags }) (λ j. nat_lt j m) s
+      → Becomes s (record (screen_of s) { rows = region_up (replicate s.width blank) (screen_of s).rows 0 n k }) (record (kept_of s) { lengths = region_up s.width (lengths_of s) 0 n k; flags = region_up no_flags s.flags 0 n k }) (scroll_touches 0 n k) t
+      → Becomes r (record (screen_of r) { rows = region_up (replicate r.width blank) (screen_of r).rows 0 n k }) (record (kept_of r) { lengths = region_up r.width (lengths_of r) 0 n k; flags = region_up no_flags r.flags 0 n k }) (scroll_touches 0 n k) t
   up-over a b =
       let rows = region-topped_at (replicate r.width blank) (screen_of r).rows n k m e in
       let lengths = region-topped_at r.width (lengths_of r) n k m e in
@@ -407,7 +418,7 @@ module _ {W : Type 0} (r s t : SurfaceValue W) (n k m : ℕ) (e : m ≡ min k n)
         full = b.full ∙ a.full;
         log = b.log ∙ a.log;
         mark = b.mark ∙ a.mark;
-        rows = marks-then r s t a.height a.mark a.rows b.rows;
+        rows = marks-alike _ (scroll_touches 0 n k) r t (λ j. scroll-over n k m j e) (marks-then (λ j. nat_lt j m) (scroll_touches 0 n k) r s t a.height a.mark a.rows b.rows);
         screen_is = b.screen_is
             ∙ ap (λ (z : Screen). record z { rows = region_up (replicate z.width blank) z.rows 0 n k }) a.screen_is
             ∙ (λ i. record (screen_of r) { rows = rows i });
@@ -433,7 +444,7 @@ pub record AppliesPart {W : Type 0} (f : List ℕ → ℕ) (r : SurfaceValue W) 
   pub fit : regions_fit r.height left ≡ true
   pub frame : SameFrame r s
   pub mark : s.mark ≡ r.mark
-  pub rows : MarksRows r s
+  pub rows : MarksSome (touched f (screen_of r) all) (touched f (screen_of s) left) r s
   pub screen : replay f (screen_of s) left ≡ replay f (screen_of r) all
   pub kept : replay_kept f (screen_of s) (kept_of s) left ≡ replay_kept f (screen_of r) (kept_of r) all
   pub leaves : LeavesRows r.width (rows_scrolled_off f (screen_of r) all) (rows_scrolled_off f (screen_of s) left) u v
@@ -444,13 +455,13 @@ module _ {W : Type 0} (f : List ℕ → ℕ) (r : SurfaceValue W) (all : List Ch
     fit = fit;
     frame = record { widths = refl; width = refl; height = refl; full = refl; log = refl };
     mark = refl;
-    rows = marks-none r;
+    rows = some-none (touched f (screen_of r) all) r;
     screen = refl;
     kept = refl;
     leaves = leaves-all r.width (rows_scrolled_off f (screen_of r) all) u;
   }
 
-  pub part-all : (s : SurfaceValue W) (v : List LineValue) → AppliesPart f r all [] u s v → Becomes r (replay f (screen_of r) all) (replay_kept f (screen_of r) (kept_of r) all) s
+  pub part-all : (s : SurfaceValue W) (v : List LineValue) → AppliesPart f r all [] u s v → Becomes r (replay f (screen_of r) all) (replay_kept f (screen_of r) (kept_of r) all) (touched f (screen_of r) all) s
   part-all s v p = record {
     widths = p.frame.widths;
     width = p.frame.width;
@@ -458,7 +469,7 @@ module _ {W : Type 0} (f : List ℕ → ℕ) (r : SurfaceValue W) (all : List Ch
     full = p.frame.full;
     log = p.frame.log;
     mark = p.mark;
-    rows = p.rows;
+    rows = some-all (touched f (screen_of r) all) (touched f (screen_of s) []) r s (λ j. refl) p.rows;
     screen_is = p.screen;
     kept_is = p.kept;
   }
@@ -470,7 +481,7 @@ module _ {W : Type 0} (f : List ℕ → ℕ) (r : SurfaceValue W) (all : List Ch
     pub part-fits : region_fits s.height c ≡ true
     part-fits = ap (λ (h : ℕ). region_fits h c) p.frame.height ∙ (and_parts (region_fits r.height c) (regions_fit r.height left) p.fit).0
 
-    pub part-more : (t : SurfaceValue W) (x : List LineValue) → Becomes s (step f (screen_of s) c) (step_kept f (screen_of s) (kept_of s) c) t → ScrollsOff s.width (left_step f (screen_of s) c) v x → AppliesPart f r all left u t x
+    pub part-more : (t : SurfaceValue W) (x : List LineValue) → Becomes s (step f (screen_of s) c) (step_kept f (screen_of s) (kept_of s) c) (touches f (screen_of s) c) t → ScrollsOff s.width (left_step f (screen_of s) c) v x → AppliesPart f r all left u t x
     part-more t x b off =
         let more : ScrollsOff r.width (left_step f (screen_of s) c) v x = subst (λ (w : ℕ). ScrollsOff w (left_step f (screen_of s) c) v x) p.frame.width off in
         let rest : rows_scrolled_off f (screen_of s) (c ∷ left) ≡ left_step f (screen_of s) c ++ rows_scrolled_off f (screen_of t) left = ap (λ (z : Screen). left_step f (screen_of s) c ++ rows_scrolled_off f z left) (sym b.screen_is) in
@@ -484,7 +495,8 @@ module _ {W : Type 0} (f : List ℕ → ℕ) (r : SurfaceValue W) (all : List Ch
             log = b.log ∙ p.frame.log;
           };
           mark = b.mark ∙ p.mark;
-          rows = marks-then r s t p.frame.height p.mark p.rows b.rows;
+          rows = some-more (touched f (screen_of r) all) (touched f (screen_of s) (c ∷ left)) (touches f (screen_of s) c) (touched f (screen_of t) left) r s t p.frame.height p.mark
+              (λ j. ap (λ (z : Screen). touches f (screen_of s) c j || touched f z left j) (sym b.screen_is)) p.rows b.rows;
           screen = ap (λ (z : Screen). replay f z left) b.screen_is ∙ p.screen;
           kept = ap₂ (λ (z : Screen) (k : Kept). replay_kept f z k left) b.screen_is b.kept_is ∙ p.kept;
           leaves = leaves-then r.width (rows_scrolled_off f (screen_of r) all) (rows_scrolled_off f (screen_of s) (c ∷ left)) (rows_scrolled_off f (screen_of t) left) u v x p.leaves

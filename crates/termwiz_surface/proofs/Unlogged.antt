@@ -12,10 +12,11 @@ use Rattle.termwiz_surface.specs.Adding.{with_log}
 use Rattle.termwiz_surface.specs.Asking.{knows}
 use Rattle.termwiz_surface.specs.Following.{ViewerValue, Follows}
 use Rattle.termwiz_surface.specs.History.{KeepsNames, NamesGoOn}
-use Rattle.termwiz_surface.specs.RowNumbers.{NumbersRows}
+use Rattle.termwiz_surface.specs.RowNumbers.{NumbersRows, NumbersTouched}
 use Rattle.termwiz_surface.specs.Surface.{SurfaceValue, Becomes, screen_of, kept_of, full_of}
+use Rattle.termwiz_surface.specs.Touching.{touched}
 use Rattle.termwiz_surface.specs.Unlogged.{MakesUnlogged}
-use Rattle.termwiz_surface.proofs.RowNumbers.{makes-logged, numbers-makes, numbers-flushed, numbers-then}
+use Rattle.termwiz_surface.proofs.RowNumbers.{makes-logged, numbers-makes, numbers-flushed, numbers-flushed_touched, numbers-then}
 use Rattle.termwiz_surface.proofs.Following.{Follows-makes, Leads-flushed}
 use Rattle.termwiz_surface.proofs.Remembering.{keeps_makes, keeps_flushed}
 
@@ -44,7 +45,7 @@ module _ {W : Type 0} where
   }
 
   -- the changes were made, and then counted
-  pub makes-unlogged : (f : List ℕ → ℕ) (s m : SurfaceValue W) (cs : List ChangeValue) (mark : ℕ) → mark ≡ next_number s.log + length cs → Becomes (record s { mark = mark }) (replay f (screen_of s) cs) (replay_kept f (screen_of s) (kept_of s) cs) m → MakesUnlogged f s cs (with_log m (passed m.log (length cs)))
+  pub makes-unlogged : (f : List ℕ → ℕ) (s m : SurfaceValue W) (cs : List ChangeValue) (mark : ℕ) → mark ≡ next_number s.log + length cs → Becomes (record s { mark = mark }) (replay f (screen_of s) cs) (replay_kept f (screen_of s) (kept_of s) cs) (touched f (screen_of s) cs) m → MakesUnlogged f s cs (with_log m (passed m.log (length cs)))
   makes-unlogged f s m cs mark e b = (
     with_log m (appended s.log cs),
     makes-logged f s m cs mark (appended s.log cs) e refl b,
@@ -66,6 +67,9 @@ module _ {W : Type 0} where
     | inl e ↦ none e
     | inr some ↦ subst (NumbersRows s) (sym m.2) (numbers-then s m.0 _ (numbers-makes f s m.0 cs (omega arith) m.1) (numbers-flushed m.0 (next_number m.0.log)))
   ]
+
+  pub unlogged-touched : (f : List ℕ → ℕ) (s t : SurfaceValue W) (cs : List ChangeValue) → MakesUnlogged f s cs t → NumbersTouched f s cs t
+  unlogged-touched f s t cs m = subst (NumbersTouched f s cs) (sym m.2) (numbers-flushed_touched f s m.0 cs (next_number m.0.log) m.1)
 
   Follows-flushed : (f : W → List ℕ → ℕ) (v : ViewerValue W) (s : SurfaceValue W) (n : ℕ) → Follows f v s → Follows f v (with_log s (flushed s.log n))
   Follows-flushed f v s n h = record {

@@ -4,6 +4,7 @@ use Rattle.termwiz_cell.specs.ChangeValue.{ChangeValue}
 use Rattle.termwiz_screen.specs.Log.{LogValue, next_number, appended, restarted}
 use Rattle.termwiz_surface.specs.Surface.{SurfaceValue, screen_of, kept_of, IsSound, SameFrame, Becomes}
 use Rattle.termwiz_screen.specs.Step.{replay, replay_kept, regions_fit}
+use Rattle.termwiz_surface.specs.Touching.{touched}
 use Rattle.termwiz_surface.specs.declared.surface.SurfaceError.{SurfaceError}
 use Rattle.termwiz_surface.specs.declared.surface.SurfaceError.TheVariants.{ScrollRegion, Numbers, Memory}
 
@@ -25,11 +26,12 @@ module _ {W : Type 0} where
       (regions_fit s.height changes ≡ true) × (2 ^ 64 ≤ next_number s.log + length changes)
   Refuses s changes (Err Memory) = ⊥
 
-  -- the changes are made, and logged; rows that change get the surface's new number
+  -- the changes are made, and logged; the rows that they touch get the surface's new number
   abbrev pub Makes : (List ℕ → ℕ) → SurfaceValue W → List ChangeValue → SurfaceValue W → Type 0
   Makes measure old changes new =
       Becomes (marking old (appended old.log changes)) (replay measure (screen_of old) changes)
-      (replay_kept measure (screen_of old) (kept_of old) changes) new
+      (replay_kept measure (screen_of old) (kept_of old) changes)
+      (touched measure (screen_of old) changes) new
 
   -- a list of changes is made, and this number returned, or it is refused
   abbrev pub Adds :

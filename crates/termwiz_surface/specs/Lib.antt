@@ -1,3 +1,4 @@
+pub mod Touching
 pub mod Surface
 pub mod RowNumbers
 pub mod Printing
@@ -50,8 +51,9 @@ pub use Rattle.termwiz_screen.specs.Fewest
 pub use Rattle.termwiz_screen.specs.SequenceLaws
 pub use Rattle.termwiz_cell.specs.ChangeValue
 -- what callers cite, by its name alone: surfaces, viewers and answers,
-pub use Rattle.termwiz_surface.specs.Surface.{SurfaceValue, blank_surface, blank_surface_from, screen_of, kept_of, full_of, IsSound, IsSurfaceSize, SameFrame, number_at, RowStays}
-pub use Rattle.termwiz_surface.specs.RowNumbers.{HasStayed, NumbersRows}
+pub use Rattle.termwiz_surface.specs.Surface.{SurfaceValue, blank_surface, blank_surface_from, screen_of, kept_of, full_of, IsSound, IsSurfaceSize, SameFrame, number_at, RowStays, MarksRows}
+pub use Rattle.termwiz_surface.specs.RowNumbers.{HasStayed, NumbersRows, NumbersTouched}
+pub use Rattle.termwiz_surface.specs.Touching.{touched, touches, touched_by, one_touches, piece_touches, scroll_touches, wrap_touches, down_touches, cursor_row, every_row, no_row}
 pub use Rattle.termwiz_surface.specs.Adding.{Adds, Makes, with_log, marking}
 pub use Rattle.termwiz_surface.specs.Unlogged.{AddsUnlogged, MakesUnlogged, lent_value}
 pub use Rattle.termwiz_surface.specs.ScrolledOff.{AddsScrolledOff, ScrollsOff, KeepsLines, rows_scrolled_off, left_step, left_by, left_one, left_piece}

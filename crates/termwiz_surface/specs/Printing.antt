@@ -4,6 +4,7 @@ use Rattle.std.specs.Str.{IsUtf8}
 use Rattle.unicode_segmentation.specs.Grapheme.{graphemes}
 use Rattle.termwiz_screen.specs.Print.{print_one, kept_after}
 use Rattle.termwiz_surface.specs.Surface.{SurfaceValue, screen_of, kept_of, Becomes}
+use Rattle.termwiz_surface.specs.Touching.{touched_by}
 
 module _ {W : Type 0} where
   -- the graphemes are printed
@@ -11,7 +12,8 @@ module _ {W : Type 0} where
       (List ℕ → ℕ) → SurfaceValue W → List (List ℕ) → SurfaceValue W → Type 0
   PrintsGraphemes measure old gs new =
       Becomes old (fold (print_one measure) (screen_of old) gs)
-      (kept_after measure (screen_of old) (kept_of old) gs) new
+      (kept_after measure (screen_of old) (kept_of old) gs)
+      (touched_by measure (screen_of old) gs) new
 
   -- the graphemes that the text begins with are printed, and the rest is left
   pub record PrintsFirst (measure : List ℕ → ℕ) (old : SurfaceValue W) (text rest : List ℕ)

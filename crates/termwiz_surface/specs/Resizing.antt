@@ -4,16 +4,18 @@ use Rattle.termwiz_screen.specs.Log.{next_number, restarted}
 use Rattle.termwiz_screen.specs.Resized.{resized_screen, resized_kept}
 use Rattle.termwiz_surface.specs.Adding.{marking}
 use Rattle.termwiz_surface.specs.Surface.{SurfaceValue, screen_of, kept_of, Becomes}
+use Rattle.termwiz_surface.specs.Touching.{every_row}
 use Rattle.termwiz_surface.specs.declared.surface.SurfaceError.{SurfaceError}
 use Rattle.termwiz_surface.specs.declared.surface.SurfaceError.TheVariants.{ScrollRegion, Numbers, Memory}
 
 module _ {W : Type 0} where
   -- the surface has another size, and an empty log under a new number, or 0 where that was the
-  -- number, which all rows get
+  -- number; every row is touched, since each stored row takes the width
   abbrev pub HasResized : SurfaceValue W → ℕ → ℕ → SurfaceValue W → Type 0
   HasResized old w h new =
       Becomes (record (marking old (restarted old.log)) { width = w; height = h })
-      (resized_screen (screen_of old) w h) (resized_kept (kept_of old) w h) new
+      (resized_screen (screen_of old) w h) (resized_kept (kept_of old) w h)
+      every_row new
 
   -- the surface takes another size, or nothing has changed
   abbrev pub Resizes :

@@ -1,5 +1,5 @@
 -- What contracts see of a surface, and the form that it keeps.
-use Rattle.std.specs.Prelude.{◌≡◌, ℕ, ◌<◌, ◌≤◌, ◌^◌, ◌⊎◌, max, Bool, true, Option, None, List, [], map, length, replicate, slice_index_or}
+use Rattle.std.specs.Prelude.{◌≡◌, ℕ, ◌<◌, ◌≤◌, ◌^◌, ◌⊎◌, max, Bool, true, false, Option, None, List, [], map, length, replicate, slice_index_or}
 use Rattle.termwiz_cell.specs.Attributes.{Attributes, default_attributes}
 use Rattle.termwiz_cell.specs.CellValue.{CellValue, blank}
 use Rattle.termwiz_cell.specs.declared.change.CursorVisibility.{CursorVisibility}
@@ -34,8 +34,8 @@ pub record SurfaceValue (W : Type 0) : Type 0 where
   -- its repaints carry the title, the cursor's shape and colour and the sizes of lines too
   pub full : Bool
   pub log : LogValue
-  -- the number of each row, which the surface had when the row last changed, or later, and the
-  -- least one that rows get that change in the list under way
+  -- the number of each row, which the surface had after the list that last touched it, and the one
+  -- that rows get that the list under way touches
   pub numbers : List ℕ
   pub mark : ℕ
 
@@ -147,15 +147,18 @@ module _ {W : Type 0} where
       × (slice_index_or new.flags j no_flags ≡ slice_index_or old.flags j no_flags)
       × (number_at new j ≡ number_at old j)
 
-  -- each row has a number from the mark of the old surface on, or stays
-  abbrev pub MarksRows : SurfaceValue W → SurfaceValue W → Type 0
-  MarksRows old new =
-      (j : ℕ) → j < old.height → (old.mark ≤ number_at new j) ⊎ RowStays old new j
+  -- each row that is touched has the mark of the old surface as its number, unless its number was
+  -- greater, and each other row stays
+  pub record MarksRows (touched : ℕ → Bool) (old new : SurfaceValue W) : Type 0 where
+    pub each :
+        (j : ℕ) → j < old.height →
+        ((touched j ≡ true) × (number_at new j ≡ max old.mark (number_at old j)))
+        ⊎ ((touched j ≡ false) × RowStays old new j)
 
   -- the surface has this screen now, keeps this beside it, and has its old width value, size, kind
-  -- and log; rows that have changed are marked
-  pub record Becomes (old : SurfaceValue W) (screen : Screen) (kept : Kept) (new : SurfaceValue W) :
-      Type 0 where
+  -- and log; the rows that were touched are marked, and no others
+  pub record Becomes (old : SurfaceValue W) (screen : Screen) (kept : Kept) (touched : ℕ → Bool)
+      (new : SurfaceValue W) : Type 0 where
     pub widths : new.widths ≡ old.widths
     pub width : new.width ≡ old.width
     pub height : new.height ≡ old.height
@@ -164,4 +167,4 @@ module _ {W : Type 0} where
     pub screen_is : screen_of new ≡ screen
     pub kept_is : kept_of new ≡ kept
     pub mark : new.mark ≡ old.mark
-    pub rows : MarksRows old new
+    pub rows : MarksRows touched old new

@@ -1,6 +1,6 @@
 //! Laws of the definitions that contracts cite. Each is stated on a function that does nothing.
 ghost use Rattle.std.specs.Bool.{Decides};
-ghost use Rattle.std.specs.Prelude.{◌≡◌};
+ghost use Rattle.std.specs.Prelude.{◌≡◌, ◌<◌, List, max};
 ghost use Rattle.termwiz_surface.specs.{AnswersStay, BrokenListsLeaveForm, CarriedLead, GivenCarry};
 ghost use Rattle.termwiz_surface.specs.{ChangesGoOn, ChangesLeadOn, FlushesKeepLeading, LackMemory};
 ghost use Rattle.termwiz_surface.specs.{FlushesKeepPast, FollowedFullLeadOn, FollowedLeadOn};
@@ -8,7 +8,9 @@ ghost use Rattle.termwiz_surface.specs.{LackNumbers, LeadsWhereItIs, NamedAreLed
 ghost use Rattle.termwiz_surface.specs.{NothingIsNamedAtFirst, NumberNamesPicture, RestartsGoOn};
 ghost use Rattle.termwiz_surface.specs.{RestartsKeepLeading, StreamsLeadOn, full_screens, measure};
 ghost use Rattle.termwiz_surface.specs.{FullScreen, Screen, attribute_change_value, change_value};
-ghost use Rattle.termwiz_surface.specs.{NumbersRows, SurfaceValue, screens};
+ghost use Rattle.termwiz_surface.specs.{ChangeValue, HasResized, Makes, MakesUnlogged, screens};
+ghost use Rattle.termwiz_surface.specs.{NumbersRows, NumbersTouched, SurfaceValue, next_number};
+ghost use Rattle.termwiz_surface.specs.{number_at, ℕ};
 
 use termwiz_cell::cell::AttributeChange;
 use termwiz_cell::change::Change;
@@ -84,11 +86,19 @@ pub fn schedule_laws<W: Widths>()
     ensures broken { BrokenListsLeaveForm W }
 {}
 
-/// What the numbers of rows say after each call they say after several calls.
+/// What the numbers of rows say after each call they say after several calls. A list of changes
+/// gives its number to the rows that it touches, and to no others; a resize gives its number to
+/// all.
 pub fn row_number_laws<W: Widths>()
     ensures same { (s : SurfaceValue W) → NumbersRows s s }
     ensures then { (r s t : SurfaceValue W) →
         NumbersRows r s → NumbersRows s t → NumbersRows r t }
+    ensures made { (f : List ℕ → ℕ) (s t : SurfaceValue W) (changes : List ChangeValue) →
+        Makes f s changes t → NumbersTouched f s changes t }
+    ensures unlogged { (f : List ℕ → ℕ) (s t : SurfaceValue W) (changes : List ChangeValue) →
+        MakesUnlogged f s changes t → NumbersTouched f s changes t }
+    ensures resized { (s t : SurfaceValue W) (w h j : ℕ) → HasResized s w h t → j < h →
+        number_at t j ≡ max (next_number t.log) (number_at s j) }
 {}
 
 /// Changes, and changes of one attribute, are equal exactly where their values are.

@@ -1,6 +1,6 @@
 //! The numbers of a surface's rows, which say when each row last changed.
 ghost use Rattle.std.specs.Prelude.{◌≡◌, ◌+◌, ◌<◌, ◌≤◌, ◌^◌, ◌==◌, ◌&&◌, ◌||◌, IfOk, OnOk, OnErr};
-ghost use Rattle.std.specs.Prelude.{nat_lt, replicate, slice_index_or, vec_capacity, vec_len};
+ghost use Rattle.std.specs.Prelude.{max, nat_lt, replicate, slice_index_or, vec_capacity, vec_len};
 ghost use Rattle.termwiz_surface.specs.{AreMarked, IsSound, SameFrame, ℕ, length, measure};
 ghost use Rattle.termwiz_surface.specs.{next_number, number_at, numbers_over, restarted, with_log};
 
@@ -42,7 +42,7 @@ impl RowNumbers {
         }
     }
 
-    /// Gives a row this number.
+    /// Gives a row this number, unless it has a greater one.
     #[inline(always)]
     pub(super) fn mark_row(&mut self, row: usize, number: SequenceNo)
         requires { row < vec_len self.old.own }
@@ -51,10 +51,10 @@ impl RowNumbers {
             (numbers_over self.new.all self.new.own.items) }
         ensures len { vec_len self.new.own ≡ vec_len self.old.own }
     {
-        self.own[row] = number;
+        self.own[row] = self.own[row].max(number);
     }
 
-    /// Gives `count` rows, from `first` on, this number.
+    /// Gives `count` rows, from `first` on, this number, unless they have greater ones.
     pub(super) fn mark_rows(&mut self, first: usize, count: usize, number: SequenceNo)
         requires { first + count ≤ vec_len self.old.own }
         ensures marked { AreMarked first count number
@@ -67,14 +67,14 @@ impl RowNumbers {
         }
     }
 
-    /// Gives all rows this number.
+    /// Gives all rows this number, unless they have greater ones.
     pub(super) fn mark_all(&mut self, number: SequenceNo)
         ensures marked { AreMarked 0 (vec_len self.old.own) number
             (numbers_over self.old.all self.old.own.items)
             (numbers_over self.new.all self.new.own.items) }
         ensures len { vec_len self.new.own ≡ vec_len self.old.own }
     {
-        self.all = number;
+        self.all = self.all.max(number);
     }
 
     /// Makes room for `height` rows, so that `renew` needs no memory.
@@ -86,13 +86,27 @@ impl RowNumbers {
         self.own.reserve(height.saturating_sub(self.own.len()))
     }
 
-    /// Takes `height` rows, and gives all of them this number.
+    // Gives each row the number that it has as its own.
+    fn own_all(&mut self)
+        ensures own { (j : ℕ) → slice_index_or self.new.own.items j 0
+            ≡ slice_index_or (numbers_over self.old.all self.old.own.items) j 0 }
+        ensures len { vec_len self.new.own ≡ vec_len self.old.own }
+        ensures capacity { vec_capacity self.new.own ≡ vec_capacity self.old.own }
+    {
+        for row in 0..self.own.len() {
+            self.own[row] = self.get(row);
+        }
+    }
+
+    /// Takes `height` rows, and gives all of them this number, unless they have greater ones.
     pub(super) fn renew(&mut self, height: usize, number: SequenceNo)
         requires { height ≤ vec_capacity self.old.own }
         ensures marked { (j : ℕ) → j < height →
-            number ≤ slice_index_or (numbers_over self.new.all self.new.own.items) j 0 }
+            slice_index_or (numbers_over self.new.all self.new.own.items) j 0
+            ≡ max number (slice_index_or (numbers_over self.old.all self.old.own.items) j 0) }
         ensures len { vec_len self.new.own ≡ height }
     {
+        self.own_all();
         self.all = number;
         self.own.truncate(height);
         for _row in self.own.len()..height {
@@ -111,8 +125,9 @@ impl Clone for RowNumbers {
 }
 
 impl<W: Widths> Surface<W> {
-    /// The number of a row: the surface had it when the row last changed, or a later one. It is 0
-    /// for a row that has never changed, and past the last row.
+    /// The number of a row: the one that the surface had after the last list of changes that wrote
+    /// or moved the row, or after a later resize or error. In a new surface it is the surface's
+    /// number, and 0 if it was made from none; it is 0 past the last row.
     pub fn row_seqno(&self, row: usize) -> SequenceNo
         ensures { result ≡ number_at self.now row }
     {

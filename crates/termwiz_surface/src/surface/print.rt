@@ -5,7 +5,9 @@ ghost use Rattle.termwiz_surface.specs.{AreLetters, AreNarrow, IsMeasured, Print
 ghost use Rattle.termwiz_surface.specs.{SameFrame, down_kept, graphemes, map, needs_box, print_one};
 ghost use Rattle.termwiz_surface.specs.{AreWide, is_plain, list_all, one_kept, put_kept, screen_of};
 ghost use Rattle.termwiz_surface.specs.{Becomes, chars, false, kept_of, measure, returned, wrapped};
+ghost use Rattle.termwiz_surface.specs.{cursor_row, down_touches, one_touches, touched_by};
 ghost use Rattle.termwiz_surface.specs.{IfOk, OnOk, down, left_behind_first, left_by, print, true};
+ghost use Rattle.termwiz_surface.specs.{wrap_touches};
 
 use super::Surface;
 use std::alloc::AllocError;
@@ -20,7 +22,8 @@ use termwiz_text::{after_line_end, letter_count, split_first_grapheme};
 impl<W: Widths> Surface<W> {
     fn line_feed(&mut self) -> Result<(), AllocError>
         ensures ok { OnOk result (Becomes self.old (down (screen_of self.old))
-            (down_kept (screen_of self.old) (kept_of self.old)) self.new) }
+            (down_kept (screen_of self.old) (kept_of self.old))
+            (down_touches (screen_of self.old)) self.new) }
         ensures err { OnErr result (self.new ≡ self.old) }
     {
         if self.y + 1 < self.height {
@@ -35,7 +38,8 @@ impl<W: Widths> Surface<W> {
     // Moves the cursor to the beginning of the next row.
     fn next_line(&mut self) -> Result<(), AllocError>
         ensures ok { OnOk result (Becomes self.old (returned (down (screen_of self.old)))
-            (down_kept (screen_of self.old) (kept_of self.old)) self.new) }
+            (down_kept (screen_of self.old) (kept_of self.old))
+            (down_touches (screen_of self.old)) self.new) }
         ensures err { OnErr result (self.new ≡ self.old) }
     {
         self.line_feed()?;
@@ -48,7 +52,8 @@ impl<W: Widths> Surface<W> {
         requires inside { self.old.x < self.old.width }
         requires measured { IsMeasured (measure W.width_of self.old.widths) cell }
         ensures ok { OnOk result (let s = screen_of self.old in
-            Becomes self.old (put_at_cursor s cell) (put_kept s cell (kept_of self.old)) self.new) }
+            Becomes self.old (put_at_cursor s cell) (put_kept s cell (kept_of self.old))
+            (cursor_row s) self.new) }
         ensures err { OnErr result (self.new ≡ self.old) }
     {
         let end = self.x + cell.width();
@@ -61,7 +66,8 @@ impl<W: Widths> Surface<W> {
     // Moves the cursor to the next row, if a wrap is pending.
     fn wrap(&mut self) -> Result<(), AllocError>
         ensures ok { OnOk result (Becomes self.old (wrapped (screen_of self.old))
-            (wrapped_kept (screen_of self.old) (kept_of self.old)) self.new) }
+            (wrapped_kept (screen_of self.old) (kept_of self.old))
+            (wrap_touches (screen_of self.old)) self.new) }
         ensures inside { OnOk result (self.new.x < self.new.width) }
         ensures err { OnErr result (self.new ≡ self.old) }
     {
@@ -76,7 +82,8 @@ impl<W: Widths> Surface<W> {
         ensures ok { OnOk result (let f = measure W.width_of self.old.widths in
             let s = screen_of self.old in
             Becomes self.old (print_one f s grapheme.now)
-            (one_kept f s grapheme.now (kept_of self.old)) self.new) }
+            (one_kept f s grapheme.now (kept_of self.old)) (one_touches f s grapheme.now)
+            self.new) }
         ensures err { OnErr result (SameFrame self.old self.new) }
     {
         match printed_piece(self.alloc, &self.widths, grapheme, &self.pen)? {
@@ -108,6 +115,7 @@ impl<W: Widths> Surface<W> {
 
     // Prints a run of ASCII in the cursor's row.
     fn put_run(&mut self, run: &str) -> Result<(), AllocError>
+        requires some { 0 < length run.now }
         requires plain { list_all is_plain run.now ≡ true }
         requires narrow { AreNarrow (measure W.width_of self.old.widths) run.now }
         requires unboxed { needs_box self.old.pen ≡ false }
@@ -140,6 +148,7 @@ impl<W: Widths> Surface<W> {
 
     // Prints a run of letters in the cursor's row, where each takes two columns.
     fn put_letters(&mut self, run: &str) -> Result<(), AllocError>
+        requires some { 0 < length (chars run.now) }
         requires letters { AreLetters run.now }
         requires wide { AreWide (measure W.width_of self.old.widths) (chars run.now) }
         requires unboxed { needs_box self.old.pen ≡ false }
@@ -211,7 +220,8 @@ impl<W: Widths> Surface<W> {
         ensures ok { OnOk result (let f = measure W.width_of self.old.widths in
             let s = screen_of self.old in
             Becomes self.old (print f s text.now)
-            (print_kept f s text.now (kept_of self.old)) self.new) }
+            (print_kept f s text.now (kept_of self.old))
+            (touched_by f s (graphemes true text.now)) self.new) }
         ensures err { OnErr result (SameFrame self.old self.new) }
     {
         let mut rest = text;

@@ -15,7 +15,7 @@ impl<W: Widths> Surface<W> {
     ///   ones added.
     /// - A cursor past the last column or row, as where a wrap is pending, moves to the last one.
     /// - The log is emptied, and the number grows by one, unless it is 0, so every viewer gets a
-    ///   repaint.
+    ///   repaint. Every row gets the number.
     /// - `Numbers`: the number is the greatest `usize`. `Memory`: memory was refused. Both leave
     ///   the surface unchanged.
     pub fn resize(&mut self, width: usize, height: usize) -> Result<(), SurfaceError>

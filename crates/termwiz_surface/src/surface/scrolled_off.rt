@@ -10,7 +10,8 @@ ghost use Rattle.termwiz_surface.specs.{left_step, lent_value, map, measure, mov
 ghost use Rattle.termwiz_surface.specs.{next_number, no_flags, passed, piece_of, print, print_kept};
 ghost use Rattle.termwiz_surface.specs.{region_fits, region_up, regions_fit, replay, replay_kept};
 ghost use Rattle.termwiz_surface.specs.{row_at, rows_scrolled_off, screen_of, step, IsSound, false};
-ghost use Rattle.termwiz_surface.specs.{step_kept, topped, true};
+ghost use Rattle.termwiz_surface.specs.{scroll_touches, step_kept, topped, touched, touched_by};
+ghost use Rattle.termwiz_surface.specs.{nat_lt, touches, true};
 
 use super::unlogged::LentChange;
 use super::{Surface, SurfaceError, number_for};
@@ -31,7 +32,8 @@ impl<W: Widths> Surface<W> {
             (record k {
               lengths = slice_set k.lengths row s.width;
               flags = slice_set k.flags row no_flags;
-            }) self.new) }
+            })
+            (λ j. j == row) self.new) }
         ensures moves { OnOk result (ScrollsOff self.old.width
             (row_at (screen_of self.old).rows row ∷ [])
             scrollback.old.lines.items scrollback.new.lines.items) }
@@ -58,7 +60,8 @@ impl<W: Widths> Surface<W> {
             (record k {
               lengths = topped s.width count k.lengths;
               flags = topped no_flags count k.flags;
-            }) self.new) }
+            })
+            (λ j. nat_lt j count) self.new) }
         ensures moves { OnOk result (ScrollsOff self.old.width
             (take count (screen_of self.old).rows)
             scrollback.old.lines.items scrollback.new.lines.items) }
@@ -145,7 +148,8 @@ impl<W: Widths> Surface<W> {
         ensures ok { OnOk result (let f = measure W.width_of self.old.widths in
             let s = screen_of self.old in
             Becomes self.old (print f s text.now)
-            (print_kept f s text.now (kept_of self.old)) self.new) }
+            (print_kept f s text.now (kept_of self.old))
+            (touched_by f s (graphemes true text.now)) self.new) }
         ensures scrolls { OnOk result (ScrollsOff self.old.width
             (left_by (measure W.width_of self.old.widths) (screen_of self.old)
             (graphemes true text.now))
@@ -176,7 +180,8 @@ impl<W: Widths> Surface<W> {
             (record k {
               lengths = region_up s.width k.lengths first size count;
               flags = region_up no_flags k.flags first size count;
-            }) self.new) }
+            })
+            (scroll_touches first size count) self.new) }
         ensures scrolls { OnOk result (ScrollsOff self.old.width
             (if first == 0 then take (min count size) (screen_of self.old).rows else [])
             scrollback.old.lines.items scrollback.new.lines.items) }
@@ -202,7 +207,8 @@ impl<W: Widths> Surface<W> {
         ensures ok { OnOk result (let f = measure W.width_of self.old.widths in
             let s = screen_of self.old in
             Becomes self.old (step f s (change_value change.now))
-            (step_kept f s (kept_of self.old) (change_value change.now)) self.new) }
+            (step_kept f s (kept_of self.old) (change_value change.now))
+            (touches f s (change_value change.now)) self.new) }
         ensures scrolls { OnOk result (ScrollsOff self.old.width
             (left_step (measure W.width_of self.old.widths) (screen_of self.old)
             (change_value change.now))
@@ -236,7 +242,8 @@ impl<W: Widths> Surface<W> {
         ensures ok { OnOk result (let f = measure W.width_of self.old.widths in
             let s = screen_of self.old in
             Becomes self.old (step f s (lent_value change.now))
-            (step_kept f s (kept_of self.old) (lent_value change.now)) self.new) }
+            (step_kept f s (kept_of self.old) (lent_value change.now))
+            (touches f s (lent_value change.now)) self.new) }
         ensures scrolls { OnOk result (ScrollsOff self.old.width
             (left_step (measure W.width_of self.old.widths) (screen_of self.old)
             (lent_value change.now))
@@ -261,7 +268,8 @@ impl<W: Widths> Surface<W> {
         ensures ok { OnOk result (let f = measure W.width_of self.old.widths in
             let s = screen_of self.old in
             Becomes self.old (replay f s (map lent_value changes.now))
-            (replay_kept f s (kept_of self.old) (map lent_value changes.now)) self.new) }
+            (replay_kept f s (kept_of self.old) (map lent_value changes.now))
+            (touched f s (map lent_value changes.now)) self.new) }
         ensures scrolls { OnOk result (ScrollsOff self.old.width
             (rows_scrolled_off (measure W.width_of self.old.widths) (screen_of self.old)
             (map lent_value changes.now))
@@ -354,7 +362,8 @@ impl<W: Widths> Surface<W> {
         ensures ok { OnOk result (let f = measure W.width_of self.old.widths in
             let s = screen_of self.old in
             Becomes self.old (replay f s (map change_value changes.now))
-            (replay_kept f s (kept_of self.old) (map change_value changes.now)) self.new) }
+            (replay_kept f s (kept_of self.old) (map change_value changes.now))
+            (touched f s (map change_value changes.now)) self.new) }
         ensures scrolls { OnOk result (ScrollsOff self.old.width
             (rows_scrolled_off (measure W.width_of self.old.widths) (screen_of self.old)
             (map change_value changes.now))

@@ -1,12 +1,15 @@
 //! What each change does to a surface.
-ghost use Rattle.std.specs.Prelude.{◌≡◌, ◌+◌, ◌-◌, ◌<◌, ◌≤◌, replicate, slice_index_or, slice_set};
+ghost use Rattle.std.specs.Prelude.{◌≡◌, ◌+◌, ◌-◌, ◌<◌, ◌≤◌, nat_le, replicate, slice_index_or};
+ghost use Rattle.std.specs.Prelude.{slice_set};
 ghost use Rattle.termwiz_surface.specs.{attribute_change_value, no_flags, with_line_attribute};
 ghost use Rattle.termwiz_surface.specs.{OnOk, screen_lengths, with_attribute, with_background};
 ghost use Rattle.termwiz_surface.specs.{change_value, clear_screen, eol_lengths, eos_lengths};
 ghost use Rattle.termwiz_surface.specs.{region_down, region_fits, regions_fit, replay_kept};
 ghost use Rattle.termwiz_surface.specs.{Becomes, SameFrame, clear_eol, clear_eos, lengths_of};
 ghost use Rattle.termwiz_surface.specs.{kept_of, measure, region_up, screen_of, step_kept};
-ghost use Rattle.termwiz_surface.specs.{OnErr, blank, length, map, placed, replay, step, true};
+ghost use Rattle.termwiz_surface.specs.{cursor_row, every_row, no_row, scroll_touches, touched};
+ghost use Rattle.termwiz_surface.specs.{OnErr, blank, length, map, placed, replay, step, touches};
+ghost use Rattle.termwiz_surface.specs.{true};
 
 use super::Surface;
 use std::alloc::AllocError;
@@ -29,7 +32,8 @@ impl<W: Widths> Surface<W> {
             Becomes self.old (clear_eol s (with_background color.now))
             (record (kept_of self.old) {
               lengths = eol_lengths s (with_background color.now) (lengths_of self.old);
-            }) self.new) }
+            })
+            (cursor_row s) self.new) }
         ensures err { OnErr result (SameFrame self.old self.new) }
     {
         let pen = background_only(self.alloc, *color)?;
@@ -50,7 +54,8 @@ impl<W: Widths> Surface<W> {
             Becomes self.old (clear_eos s (with_background color.now))
             (record (kept_of self.old) {
               lengths = eos_lengths s (with_background color.now) (lengths_of self.old);
-            }) self.new) }
+            })
+            (λ j. nat_le s.y j) self.new) }
         ensures err { OnErr result (SameFrame self.old self.new) }
     {
         let pen = background_only(self.alloc, *color)?;
@@ -69,7 +74,8 @@ impl<W: Widths> Surface<W> {
             Becomes self.old (clear_screen s (with_background color.now))
             (record (kept_of self.old) {
               lengths = screen_lengths s (with_background color.now) (lengths_of self.old);
-            }) self.new) }
+            })
+            every_row self.new) }
         ensures err { OnErr result (SameFrame self.old self.new) }
     {
         let pen = background_only(self.alloc, *color)?;
@@ -88,14 +94,15 @@ impl<W: Widths> Surface<W> {
             (record (screen_of self.old) {
               pen = with_attribute self.old.pen (attribute_change_value change.now);
             })
-            (kept_of self.old) self.new) }
+            (kept_of self.old) no_row self.new) }
         ensures err { OnErr result (self.new ≡ self.old) }
     {
         self.pen.apply_change(self.alloc, change)
     }
 
     pub(super) fn place_cursor(&mut self, x: Position, y: Position)
-        ensures { Becomes self.old (placed (screen_of self.old) x y) (kept_of self.old) self.new }
+        ensures { Becomes self.old (placed (screen_of self.old) x y) (kept_of self.old) no_row
+            self.new }
     {
         self.x = column_at(x, self.x, self.width);
         self.y = row_at(y, self.y, self.height);
@@ -115,9 +122,13 @@ impl<W: Widths> Surface<W> {
             (record k {
               lengths = region_up s.width k.lengths first size count;
               flags = region_up no_flags k.flags first size count;
-            }) self.new) }
+            })
+            (scroll_touches first size count) self.new) }
         ensures err { OnErr result (SameFrame self.old self.new) }
     {
+        if count == 0 {
+            return Ok(());
+        }
         scroll_region_up(&mut self.rows, self.width, first, size, count)?;
         self.numbers.mark_rows(first, size, self.mark);
         Ok(())
@@ -137,9 +148,13 @@ impl<W: Widths> Surface<W> {
             (record k {
               lengths = region_down s.width k.lengths first size count;
               flags = region_down no_flags k.flags first size count;
-            }) self.new) }
+            })
+            (scroll_touches first size count) self.new) }
         ensures err { OnErr result (SameFrame self.old self.new) }
     {
+        if count == 0 {
+            return Ok(());
+        }
         scroll_region_down(&mut self.rows, self.width, first, size, count)?;
         self.numbers.mark_rows(first, size, self.mark);
         Ok(())
@@ -152,7 +167,8 @@ impl<W: Widths> Surface<W> {
             (record k {
               flags = slice_set k.flags self.old.y
                   (with_line_attribute attribute (slice_index_or k.flags self.old.y no_flags));
-            }) self.new }
+            })
+            (cursor_row (screen_of self.old)) self.new }
     {
         set_line_attribute(&mut self.rows, self.y, attribute);
         self.numbers.mark_row(self.y, self.mark);
@@ -161,7 +177,7 @@ impl<W: Widths> Surface<W> {
     #[inline(never)]
     pub(super) fn set_title(&mut self, title: &str) -> Result<(), AllocError>
         ensures ok { OnOk result (Becomes self.old (screen_of self.old)
-            (record (kept_of self.old) { title = title.now }) self.new) }
+            (record (kept_of self.old) { title = title.now }) no_row self.new) }
         ensures err { OnErr result (self.new ≡ self.old) }
     {
         self.title = String::from_str(self.alloc, title)?;
@@ -173,7 +189,8 @@ impl<W: Widths> Surface<W> {
         ensures ok { OnOk result (let f = measure W.width_of self.old.widths in
             let s = screen_of self.old in
             Becomes self.old (step f s (change_value change.now))
-            (step_kept f s (kept_of self.old) (change_value change.now)) self.new) }
+            (step_kept f s (kept_of self.old) (change_value change.now))
+            (touches f s (change_value change.now)) self.new) }
         ensures err { OnErr result (SameFrame self.old self.new) }
     {
         match change {
@@ -208,7 +225,8 @@ impl<W: Widths> Surface<W> {
         ensures ok { OnOk result (let f = measure W.width_of self.old.widths in
             let s = screen_of self.old in
             Becomes self.old (replay f s (map change_value changes.now))
-            (replay_kept f s (kept_of self.old) (map change_value changes.now)) self.new) }
+            (replay_kept f s (kept_of self.old) (map change_value changes.now))
+            (touched f s (map change_value changes.now)) self.new) }
         ensures err { OnErr result (SameFrame self.old self.new) }
         ensures empty { OnErr result (0 < length changes.now) }
         ensures none { length changes.now ≡ 0 → self.new ≡ self.old }

@@ -5,7 +5,7 @@ ghost use Rattle.termwiz_surface.specs.{Becomes, IsOk, OnOk, Refuses, SameFrame,
 ghost use Rattle.termwiz_surface.specs.{knows, lent_value, map, measure, next_number, region_fits};
 ghost use Rattle.termwiz_surface.specs.{regions_fit, replay, replay_kept, screen_of, step};
 ghost use Rattle.termwiz_surface.specs.{step_kept};
-ghost use Rattle.termwiz_surface.specs.{NumbersRows, passed, true, with_log};
+ghost use Rattle.termwiz_surface.specs.{NumbersRows, passed, touched, touches, true, with_log};
 
 use super::{Surface, SurfaceError, number_for};
 use std::alloc::AllocError;
@@ -65,7 +65,8 @@ impl<W: Widths> Surface<W> {
         ensures ok { OnOk result (let f = measure W.width_of self.old.widths in
             let s = screen_of self.old in
             Becomes self.old (step f s (lent_value change.now))
-            (step_kept f s (kept_of self.old) (lent_value change.now)) self.new) }
+            (step_kept f s (kept_of self.old) (lent_value change.now))
+            (touches f s (lent_value change.now)) self.new) }
         ensures err { OnErr result (SameFrame self.old self.new) }
     {
         match change {
@@ -80,7 +81,8 @@ impl<W: Widths> Surface<W> {
         ensures ok { OnOk result (let f = measure W.width_of self.old.widths in
             let s = screen_of self.old in
             Becomes self.old (replay f s (map lent_value changes.now))
-            (replay_kept f s (kept_of self.old) (map lent_value changes.now)) self.new) }
+            (replay_kept f s (kept_of self.old) (map lent_value changes.now))
+            (touched f s (map lent_value changes.now)) self.new) }
         ensures err { OnErr result (SameFrame self.old self.new) }
         ensures empty { OnErr result (0 < length changes.now) }
         ensures none { length changes.now ≡ 0 → self.new ≡ self.old }

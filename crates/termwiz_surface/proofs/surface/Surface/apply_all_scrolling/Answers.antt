@@ -7,6 +7,7 @@ use Rattle.termwiz_line.proofs.Fills.{on_err}
 use Rattle.termwiz_screen.specs.Step.{step, step_kept}
 use Rattle.termwiz_surface.specs.ScrolledOff.{ScrollsOff, left_step}
 use Rattle.termwiz_surface.specs.Surface.{SurfaceValue, Becomes, screen_of, kept_of}
+use Rattle.termwiz_surface.specs.Touching.{touches}
 use Rattle.termwiz_surface.proofs.ScrolledOff.{AppliesPart, keeps-leaves, keeps-then, mapped-next, part-all, part-fits, part-more, part-none, part-off}
 use Rattle.termwiz_surface.proofs.surface.Surface.apply_all_scrolling.Goals as goal
 
@@ -44,7 +45,7 @@ loop-change-preserved g c =
     let inside : i < length c.args.changes.now = omega arith in
     let next = mapped-next change_value c.args.changes.now i c.change-item.result inside c.change-item.is in
     let before : AppliesPart f c.args.self.now all (change ∷ left) u s v = subst (λ (cs : List ChangeValue). AppliesPart f c.args.self.now all cs u s v) next c.loop-change.invariant.part in
-    let becomes = subst (λ (w : _). Becomes s (step (measure g.W.Widths.width_of w) (screen_of s) change) (step_kept (measure g.W.Widths.width_of w) (screen_of s) (kept_of s) change) c.apply_scrolling.new.self) before.frame.widths c.in_ok-apply_scrolling.ensures.ok in
+    let becomes = subst (λ (w : _). Becomes s (step (measure g.W.Widths.width_of w) (screen_of s) change) (step_kept (measure g.W.Widths.width_of w) (screen_of s) (kept_of s) change) (touches (measure g.W.Widths.width_of w) (screen_of s) change) c.apply_scrolling.new.self) before.frame.widths c.in_ok-apply_scrolling.ensures.ok in
     let off = subst (λ (w : _). ScrollsOff s.width (left_step (measure g.W.Widths.width_of w) (screen_of s) change) v c.apply_scrolling.new.scrollback.lines.items) before.frame.widths c.in_ok-apply_scrolling.ensures.scrolls in
     record {
       part = part-more f c.args.self.now all u change left s v before c.apply_scrolling.new.self c.apply_scrolling.new.scrollback.lines.items becomes off;

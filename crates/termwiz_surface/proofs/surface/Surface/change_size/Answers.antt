@@ -1,9 +1,9 @@
-use Rattle.std.proofs.Common.{◌≡◌, ◌+◌, ◌-◌, ◌<◌, ◌^◌, min, inl, length, refl, sym, ap, ◌∙◌, subst, arith}
+use Rattle.std.proofs.Common.{◌≡◌, ℕ, ◌+◌, ◌-◌, ◌<◌, ◌^◌, min, max, inl, List, length, get_or, refl, sym, ap, ap₂, ◌∙◌, subst, arith}
 use Rattle.std.specs.Prelude.{None, string_bytes}
 use Rattle.termwiz_cell.specs.Measure.{measure}
 use Rattle.termwiz_screen.specs.ScreenValue.{cells_of}
 use Rattle.termwiz_screen.specs.Log.{next_number, restarted}
-use Rattle.termwiz_surface.specs.Surface.{SurfaceValue}
+use Rattle.termwiz_surface.specs.Surface.{SurfaceValue, numbers_over}
 use Rattle.termwiz_screen.proofs.Logs.{restarted_fits}
 use Rattle.termwiz_screen.proofs.Sides.{sides-full}
 use Rattle.termwiz_screen.proofs.RowChanges.Resized.{length-resized_stored, stored-resized, lengths-resized, shown-resized}
@@ -44,7 +44,7 @@ returns-clause-ok g c =
       full = refl;
       log = refl;
       mark = number_is;
-      rows = λ j l. inl (omega (arith, c.renew.ensures.marked j l, number_is));
+      rows = record { each = λ j l. inl (refl, c.renew.ensures.marked j l ∙ ap₂ (λ (m : ℕ) (numbers : List ℕ). max m (get_or numbers j 0)) number_is (ap₂ numbers_over c.in_ok-reserve.ensures.all c.in_ok-reserve.ensures.own)) };
       screen_is = λ i. record {
         width = c.args.width;
         height = c.args.height;

@@ -35,7 +35,7 @@ returns-clause-ok g c =
       full = refl;
       log = refl;
       mark = refl;
-      rows = marks-all _ _ _ _ _ _ _ _ _ (omega (arith, c.self.invariant.2)) c.mark_all.ensures.marked;
+      rows = marks-all _ _ _ (omega (arith, c.self.invariant.2)) c.mark_all.ensures.marked;
       screen_is = rw (rows-screen f _ (record { space = g.met.W.Widths.space_has_one c.self.inside.widths None }) c.self.invariant.0 (with_background c.args.color.now) (cells_of c.fill_rows.new.rows.items) done) refl;
       kept_is = λ i. record {
         lengths = lengths-screen f _ (record { space = g.met.W.Widths.space_has_one c.self.inside.widths None }) c.self.invariant.0 (with_background c.args.color.now) (cells_of c.fill_rows.new.rows.items) done i;

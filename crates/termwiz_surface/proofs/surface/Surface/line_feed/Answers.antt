@@ -1,11 +1,12 @@
 use Rattle.std.proofs.Common.{◌∙◌, ◌≡◌, ◌+◌, false, length, ap, refl, arith}
-use Rattle.std.specs.Prelude.{None, nat_lt, string_bytes}
+use Rattle.std.specs.Prelude.{None, nat_lt, not, string_bytes}
 use Rattle.std.proofs.lemmas.Bool.{le-ltb}
 use Rattle.termwiz_cell.specs.Measure.{measure}
 use Rattle.termwiz_screen.specs.ScreenValue.{cells_of}
 use Rattle.termwiz_screen.proofs.Sides.{sides-full}
 use Rattle.termwiz_surface.proofs.Drawn.{any_flags, any_numbers, IsSound-scrolled, rows-scrolled, lengths-scrolled}
-use Rattle.termwiz_surface.proofs.RowNumbers.{marks-all}
+use Rattle.termwiz_surface.proofs.RowNumbers.{marks-all, marks-alike}
+use Rattle.termwiz_surface.specs.Touching.{every_row}
 use Rattle.termwiz_surface.proofs.surface.Surface.line_feed.Goals as goal
 
 pub invariant_of-self-2 : goal.invariant_of-self-2
@@ -25,7 +26,7 @@ returns-clause-ok g c =
       full = refl;
       log = refl;
       mark = refl;
-      rows = marks-all _ _ _ _ _ _ _ _ _ (omega (arith, c.self.invariant.2)) c.mark_all.ensures.marked;
+      rows = marks-alike every_row _ _ _ (λ j. ap not last) (marks-all _ _ _ (omega (arith, c.self.invariant.2)) c.mark_all.ensures.marked);
       screen_is = rw (rows-scrolled c.self.inside.width (cells_of c.self.inside.rows.items)) refl;
       kept_is = λ i. record {
         lengths = lengths-scrolled c.self.inside.width (cells_of c.self.inside.rows.items) i;

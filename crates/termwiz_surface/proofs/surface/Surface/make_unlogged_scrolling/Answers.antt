@@ -6,6 +6,7 @@ use Rattle.termwiz_surface.specs.Adding.{with_log}
 use Rattle.termwiz_cell.specs.ChangeValue.{ChangeValue}
 use Rattle.termwiz_screen.specs.Step.{replay, replay_kept}
 use Rattle.termwiz_surface.specs.Surface.{SurfaceValue, Becomes, screen_of, kept_of}
+use Rattle.termwiz_surface.specs.Touching.{touched}
 use Rattle.termwiz_surface.specs.Unlogged.{MakesUnlogged, lent_value}
 use Rattle.termwiz_surface.proofs.Drawn.{any_log}
 use Rattle.termwiz_surface.specs.RowNumbers.{NumbersRows}
@@ -35,9 +36,9 @@ returns-clause-ok g c =
     let mark : ℕ = c.next_number.result + length c.args.changes.now in
     let number : mark ≡ next_number old.log + length changes =
     omega (arith, c.next_number.ensures, ap (λ (s : SurfaceValue _). next_number s.log) c.self.view_is, length-map c.args.changes.now lent_value) in
-    let becomes : Becomes (record old { mark = mark }) (replay f (screen_of old) changes) (replay_kept f (screen_of old) (kept_of old) changes) new =
+    let becomes : Becomes (record old { mark = mark }) (replay f (screen_of old) changes) (replay_kept f (screen_of old) (kept_of old) changes) (touched f (screen_of old) changes) new =
     subst (λ (s : SurfaceValue _). let f = measure g.W.Widths.width_of s.widths in
-    Becomes (record s { mark = mark }) (replay f (screen_of s) changes) (replay_kept f (screen_of s) (kept_of s) changes) new) c.self.view_is c.in_ok-apply_all_lent_scrolling.ensures.ok in
+    Becomes (record s { mark = mark }) (replay f (screen_of s) changes) (replay_kept f (screen_of s) (kept_of s) changes) (touched f (screen_of s) changes) new) c.self.view_is c.in_ok-apply_all_lent_scrolling.ensures.ok in
     rw (c.pass.ensures, ← length-map c.args.changes.now lent_value)
     (subst (λ (m : SurfaceValue _). MakesUnlogged f old changes (with_log m (passed m.log (length changes)))) (sym c.self-2.view_is) (makes-unlogged f old new changes mark number becomes))
 

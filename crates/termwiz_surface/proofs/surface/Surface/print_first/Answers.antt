@@ -11,7 +11,7 @@ use Rattle.termwiz_storage.specs.Letters.{letter_cell, set_letters}
 use Rattle.termwiz_storage.specs.Stored.{set_run}
 use Rattle.termwiz_screen.specs.Runs.{AreNarrow, AreWide}
 use Rattle.termwiz_surface.specs.Surface.{SurfaceValue, screen_of}
-use Rattle.termwiz_surface.proofs.Printing.{AllPrint-plain, AllPrint-letters, letter_run, plain_run}
+use Rattle.termwiz_surface.proofs.Printing.{AllPrint-plain, AllPrint-letters, letter_run, plain_run, prints-one}
 use Rattle.termwiz_surface.proofs.ScrolledOff.{behind-run}
 use Rattle.termwiz_surface.proofs.surface.Surface.print_first.Goals as goal
 
@@ -37,7 +37,7 @@ returns-in-Some-clause-ok g c =
     record {
       printed = (13 ∷ (10 ∷ [])) ∷ [];
       graphemes_are = first.graphemes_are;
-      prints = c.in_ok-next_line.ensures.ok;
+      prints = prints-one (measure g.W.Widths.width_of c.args.self.now.widths) c.args.self.now c.next_line.new.self (13 ∷ (10 ∷ [])) c.in_ok-next_line.ensures.ok;
       shrinks = first.shrinks;
       is_text = search rules;
     }
@@ -48,7 +48,7 @@ returns-clause-ok g c =
     record {
       printed = c.in-Some-split_first_grapheme.grapheme.now ∷ [];
       graphemes_are = first.graphemes_are;
-      prints = c.in_ok-print_one.ensures.ok;
+      prints = prints-one (measure g.W.Widths.width_of c.args.self.now.widths) c.args.self.now c.print_one.new.self c.in-Some-split_first_grapheme.grapheme.now c.in_ok-print_one.ensures.ok;
       shrinks = first.shrinks;
       is_text = search rules;
     }

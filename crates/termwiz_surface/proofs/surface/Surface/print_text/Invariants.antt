@@ -3,7 +3,9 @@ use Rattle.std.specs.Str.{IsUtf8}
 use Rattle.unicode_segmentation.specs.Grapheme.{graphemes}
 use Rattle.termwiz_cell.specs.Measure.{measure}
 use Rattle.termwiz_screen.specs.Print.{print, print_one, kept_after, print_kept}
-use Rattle.termwiz_surface.specs.Surface.{SameFrame, MarksRows, screen_of, kept_of}
+use Rattle.termwiz_surface.specs.Surface.{SameFrame, screen_of, kept_of}
+use Rattle.termwiz_surface.specs.Touching.{touched_by}
+use Rattle.termwiz_surface.proofs.RowNumbers.{MarksSome}
 use Rattle.termwiz_surface.proofs.surface.Surface.print_text.Given as goal
 
 -- what is left to print leads to the whole print
@@ -14,7 +16,7 @@ invariant-pieces g l =
       is_text : IsUtf8 l.rest;
       frame : SameFrame l.fn.self l.self;
       mark : l.self.mark ≡ l.fn.self.mark;
-      rows : MarksRows l.fn.self l.self;
+      rows : MarksSome (touched_by f (screen_of l.fn.self) (graphemes true l.text)) (touched_by f (screen_of l.self) (graphemes true l.rest)) l.fn.self l.self;
       screen : fold (print_one f) (screen_of l.self) (graphemes true l.rest) ≡ print f (screen_of l.fn.self) l.text;
       kept : kept_after f (screen_of l.self) (kept_of l.self) (graphemes true l.rest) ≡ print_kept f (screen_of l.fn.self) l.text (kept_of l.fn.self);
     }

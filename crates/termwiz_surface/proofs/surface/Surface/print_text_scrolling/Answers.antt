@@ -1,4 +1,4 @@
-use Rattle.std.proofs.Common.{◌≡◌, ◌∙◌, ℕ, suc, true, List, [], ◌∷◌, length, fold, refl, ap, sym, subst, arith}
+use Rattle.std.proofs.Common.{◌≡◌, ◌∙◌, ℕ, suc, true, List, [], ◌∷◌, length, fold, refl, ap, sym, subst, arith, rules}
 use Rattle.std.specs.Prelude.{◌==◌}
 use Rattle.std.proofs.lemmas.Bool.{eqb-true}
 use Rattle.unicode_segmentation.specs.Grapheme.{graphemes}
@@ -7,11 +7,25 @@ use Rattle.termwiz_screen.specs.Print.{print_one, kept_after}
 use Rattle.termwiz_surface.specs.Printing.{PrintsFirst}
 use Rattle.termwiz_surface.specs.ScrolledOff.{left_by}
 use Rattle.termwiz_surface.specs.Surface.{screen_of, kept_of}
+use Rattle.termwiz_surface.specs.Touching.{touched_by}
 use Rattle.termwiz_cell.proofs.Graphemes.{graphemes-nothing}
-use Rattle.termwiz_surface.proofs.Printing.{screen-left, kept-left}
-use Rattle.termwiz_surface.proofs.RowNumbers.{marks-then}
-use Rattle.termwiz_surface.proofs.ScrolledOff.{leaves-then, off-leaves}
+use Rattle.termwiz_surface.proofs.Printing.{screen-left, kept-left, touched-left}
+use Rattle.termwiz_surface.proofs.RowNumbers.{some-all, some-more, some-none}
+use Rattle.termwiz_surface.proofs.ScrolledOff.{leaves-all, leaves-then, off-leaves}
 use Rattle.termwiz_surface.proofs.surface.Surface.print_text_scrolling.Goals as goal
+
+pub pieces-init : goal.pieces-init
+pieces-init g c =
+    let f : List ℕ → ℕ = measure g.W.Widths.width_of c.args.self.now.widths in
+    record {
+      is_text = c.utf8.text;
+      frame = record { widths = refl; width = refl; height = refl; full = refl; log = refl };
+      mark = refl;
+      rows = some-none (touched_by f (screen_of c.args.self.now) (graphemes true c.args.text.now)) c.args.self.now;
+      screen = search rules;
+      kept = search rules;
+      leaves = leaves-all c.args.self.now.width (left_by f (screen_of c.args.self.now) (graphemes true c.args.text.now)) c.args.scrollback.now.lines.items;
+    }
 
 pub pieces-preserved : goal.pieces-preserved
 pieces-preserved g c =
@@ -27,7 +41,8 @@ pieces-preserved g c =
         log = some.prints.log ∙ before.frame.log;
       };
       mark = some.prints.mark ∙ before.mark;
-      rows = marks-then c.args.self.now c.pieces.self c.print_first_scrolling.new.self before.frame.height before.mark before.rows some.prints.rows;
+      rows = some-more _ _ (touched_by (measure g.W.Widths.width_of c.args.self.now.widths) (screen_of c.pieces.self) some.printed) _ c.args.self.now c.pieces.self c.print_first_scrolling.new.self before.frame.height before.mark
+          (touched-left _ c.pieces.self c.print_first_scrolling.new.self c.pieces.rest.now c.in_ok-rest.rest.now some) before.rows some.prints.rows;
       screen = screen-left _ c.pieces.self c.print_first_scrolling.new.self c.pieces.rest.now c.in_ok-rest.rest.now some ∙ before.screen;
       kept = kept-left _ c.pieces.self c.print_first_scrolling.new.self c.pieces.rest.now c.in_ok-rest.rest.now some ∙ before.kept;
       leaves = leaves-then c.args.self.now.width _ _ _ _ _ _ before.leaves (rw (← before.frame.width, ← before.frame.widths) c.in_ok-rest.ensures.scrolls);
@@ -50,7 +65,7 @@ returns-clause-ok g c =
       full = before.frame.full;
       log = before.frame.log;
       mark = before.mark;
-      rows = before.rows;
+      rows = some-all _ _ c.args.self.now c.pieces.self (λ j. ap (λ (gs : List (List ℕ)). touched_by f (screen_of c.pieces.self) gs j) nothing) before.rows;
       screen_is = sym (ap (fold (print_one f) (screen_of c.pieces.self)) nothing) ∙ before.screen;
       kept_is = sym (ap (kept_after f (screen_of c.pieces.self) (kept_of c.pieces.self)) nothing) ∙ before.kept;
     }

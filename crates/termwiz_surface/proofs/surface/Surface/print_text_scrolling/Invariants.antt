@@ -4,7 +4,9 @@ use Rattle.unicode_segmentation.specs.Grapheme.{graphemes}
 use Rattle.termwiz_cell.specs.Measure.{measure}
 use Rattle.termwiz_screen.specs.Print.{print, print_one, kept_after, print_kept}
 use Rattle.termwiz_surface.specs.ScrolledOff.{LeavesRows, left_by}
-use Rattle.termwiz_surface.specs.Surface.{SameFrame, MarksRows, screen_of, kept_of}
+use Rattle.termwiz_surface.specs.Surface.{SameFrame, screen_of, kept_of}
+use Rattle.termwiz_surface.specs.Touching.{touched_by}
+use Rattle.termwiz_surface.proofs.RowNumbers.{MarksSome}
 use Rattle.termwiz_surface.proofs.surface.Surface.print_text_scrolling.Given as goal
 
 -- what is left to print leads to the whole print, and scrolls off what is left of the rows
@@ -15,7 +17,7 @@ invariant-pieces g l =
       is_text : IsUtf8 l.rest;
       frame : SameFrame l.fn.self l.self;
       mark : l.self.mark ≡ l.fn.self.mark;
-      rows : MarksRows l.fn.self l.self;
+      rows : MarksSome (touched_by f (screen_of l.fn.self) (graphemes true l.text)) (touched_by f (screen_of l.self) (graphemes true l.rest)) l.fn.self l.self;
       screen : fold (print_one f) (screen_of l.self) (graphemes true l.rest) ≡ print f (screen_of l.fn.self) l.text;
       kept : kept_after f (screen_of l.self) (kept_of l.self) (graphemes true l.rest) ≡ print_kept f (screen_of l.fn.self) l.text (kept_of l.fn.self);
       leaves : LeavesRows l.fn.self.width (left_by f (screen_of l.fn.self) (graphemes true l.text)) (left_by f (screen_of l.self) (graphemes true l.rest)) l.fn.scrollback.lines.items l.scrollback.lines.items;

@@ -5,7 +5,7 @@ use Rattle.termwiz_cell.specs.Measure.{measure}
 use Rattle.termwiz_surface.specs.Surface.{SurfaceValue}
 use Rattle.termwiz_screen.specs.Measured.{IsMeasured}
 use Rattle.termwiz_surface.proofs.Drawn.{any_numbers, IsSound-put, rows-put, lengths-put}
-use Rattle.termwiz_surface.proofs.RowNumbers.{marks-row}
+use Rattle.termwiz_surface.proofs.RowNumbers.{marks-set}
 use Rattle.termwiz_surface.proofs.surface.Surface.put.Given as given
 use Rattle.termwiz_surface.proofs.surface.Surface.put.Goals as goal
 
@@ -39,7 +39,7 @@ returns-clause-ok g c =
       full = refl;
       log = refl;
       mark = refl;
-      rows = rw c.in_ok-paint_row.ensures.sides.flags (marks-row _ _ _ _ _ _ _ _ c.mark_row.ensures.marked);
+      rows = marks-set c.self.inside.y _ _ _ c.mark_row.ensures.marked refl c.in_ok-paint_row.ensures.sides.flags;
       screen_is = rw (rows-put (width g c) _ c.args.cell c.self.invariant.0 (inside g c)) refl;
       kept_is = λ i. record {
         lengths = lengths-put (width g c) _ c.args.cell c.self.invariant.0 (inside g c) i;

@@ -1,12 +1,13 @@
 use Rattle.std.proofs.Common.{◌∙◌, ◌+◌, ◌*◌, ◌≤◌, length, refl, sym, subst}
-use Rattle.std.specs.Prelude.{None}
+use Rattle.std.specs.Prelude.{None, encode_utf8}
 use Rattle.std.specs.Str.{chars}
 use Rattle.termwiz_cell.specs.Measure.{measure}
+use Rattle.termwiz_storage.specs.Letters.{letter_cell, set_letters}
 use Rattle.termwiz_screen.specs.Runs.{AreWide}
 use Rattle.termwiz_surface.specs.Surface.{SurfaceValue}
 use Rattle.termwiz_surface.proofs.Drawn.{any_numbers}
-use Rattle.termwiz_surface.proofs.RowNumbers.{marks-row}
-use Rattle.termwiz_surface.proofs.Printing.{IsPrinted-letters}
+use Rattle.termwiz_surface.proofs.RowNumbers.{marks-alike, marks-set}
+use Rattle.termwiz_surface.proofs.Printing.{AllPrint-letters, IsPrinted-letters, letter_run, run-touches}
 use Rattle.termwiz_surface.proofs.surface.Surface.put_letters.Goals as goal
 
 pub invariant_of-self-2 : goal.invariant_of-self-2
@@ -26,7 +27,9 @@ returns-clause-ok g c =
       full = refl;
       log = refl;
       mark = refl;
-      rows = marks-row _ _ _ _ _ _ _ _ c.mark_row.ensures.marked;
+      rows = marks-alike _ _ _ _
+          (λ j. run-touches (measure g.W.Widths.width_of c.self.inside.widths) encode_utf8 letter_cell set_letters (λ ls. 2 * length ls) letter_run j (chars c.args.run.now) _ c.requires.some fits (AllPrint-letters _ c.self.inside.pen (chars c.args.run.now) c.requires.letters wide))
+          (marks-set c.self.inside.y _ _ _ c.mark_row.ensures.marked refl refl);
       screen_is = (IsPrinted-letters (measure g.W.Widths.width_of c.self.inside.widths) (record { space = g.met.W.Widths.space_has_one c.self.inside.widths None }) (chars c.args.run.now) _ c.self.invariant.0 fits c.requires.letters wide).screen;
       kept_is = (IsPrinted-letters (measure g.W.Widths.width_of c.self.inside.widths) (record { space = g.met.W.Widths.space_has_one c.self.inside.widths None }) (chars c.args.run.now) _ c.self.invariant.0 fits c.requires.letters wide).kept;
     })

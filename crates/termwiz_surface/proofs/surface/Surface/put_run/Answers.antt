@@ -1,11 +1,13 @@
-use Rattle.std.proofs.Common.{◌∙◌, ◌+◌, ◌≤◌, length, refl, sym, subst}
+use Rattle.std.proofs.Common.{◌∙◌, ◌+◌, ◌≤◌, [], ◌∷◌, length, refl, sym, subst}
 use Rattle.std.specs.Prelude.{None}
+use Rattle.termwiz_cell.specs.CellValue.{plain_cell}
 use Rattle.termwiz_cell.specs.Measure.{measure}
+use Rattle.termwiz_storage.specs.Stored.{set_run}
 use Rattle.termwiz_screen.specs.Runs.{AreNarrow}
 use Rattle.termwiz_surface.specs.Surface.{SurfaceValue}
 use Rattle.termwiz_surface.proofs.Drawn.{any_numbers}
-use Rattle.termwiz_surface.proofs.RowNumbers.{marks-row}
-use Rattle.termwiz_surface.proofs.Printing.{IsPrinted-plain}
+use Rattle.termwiz_surface.proofs.RowNumbers.{marks-alike, marks-set}
+use Rattle.termwiz_surface.proofs.Printing.{AllPrint-plain, IsPrinted-plain, plain_run, run-touches}
 use Rattle.termwiz_surface.proofs.surface.Surface.put_run.Goals as goal
 
 pub invariant_of-self-2 : goal.invariant_of-self-2
@@ -25,7 +27,9 @@ returns-clause-ok g c =
       full = refl;
       log = refl;
       mark = refl;
-      rows = marks-row _ _ _ _ _ _ _ _ c.mark_row.ensures.marked;
+      rows = marks-alike _ _ _ _
+          (λ j. run-touches (measure g.W.Widths.width_of c.self.inside.widths) (λ b. b ∷ []) plain_cell set_run length plain_run j c.args.run.now _ c.requires.some fits (AllPrint-plain _ c.self.inside.pen c.args.run.now c.requires.plain narrow))
+          (marks-set c.self.inside.y _ _ _ c.mark_row.ensures.marked refl refl);
       screen_is = (IsPrinted-plain (measure g.W.Widths.width_of c.self.inside.widths) (record { space = g.met.W.Widths.space_has_one c.self.inside.widths None }) c.args.run.now _ c.self.invariant.0 fits c.requires.plain narrow).screen;
       kept_is = (IsPrinted-plain (measure g.W.Widths.width_of c.self.inside.widths) (record { space = g.met.W.Widths.space_has_one c.self.inside.widths None }) c.args.run.now _ c.self.invariant.0 fits c.requires.plain narrow).kept;
     })

@@ -1,4 +1,4 @@
-use Rattle.std.proofs.Common.{◌∙◌, [], ◌+◌, ◌≤◌, length, ap, refl, sym, subst, arith}
+use Rattle.std.proofs.Common.{◌≡◌, ◌∙◌, [], ◌+◌, ◌<◌, ◌≤◌, length, ap, refl, sym, subst, arith}
 use Rattle.std.specs.Prelude.{None, string_bytes}
 use Rattle.termwiz_cell.specs.Measure.{measure}
 use Rattle.termwiz_screen.specs.ScreenValue.{cells_of}
@@ -10,7 +10,7 @@ use Rattle.termwiz_screen.specs.Sides.{row_flags}
 use Rattle.termwiz_screen.proofs.Sides.{sides-full}
 use Rattle.termwiz_surface.proofs.Drawn.{any_flags, any_numbers, IsSound-partly_reset, IsSound-up}
 use Rattle.termwiz_screen.proofs.RowChanges.Scrolled.{rows-up, lengths-up}
-use Rattle.termwiz_surface.proofs.RowNumbers.{marks-rows, up-outside}
+use Rattle.termwiz_surface.proofs.RowNumbers.{marks-range, range-scroll, up-outside, up-still}
 use Rattle.termwiz_surface.proofs.surface.Surface.scroll_region_up.Goals as goal
 
 pub invariant_of-self : goal.invariant_of-self
@@ -33,6 +33,7 @@ pub returns-clause-ok : goal.returns-clause-ok
 returns-clause-ok g c =
     let inside : c.args.first + c.args.size ≤ c.self.inside.height = subst (λ (s : SurfaceValue _). c.args.first + c.args.size ≤ s.height) (sym c.self.view_is) c.requires in
     let long : c.args.first + c.args.size ≤ length (cells_of c.self.inside.rows.items) = omega (arith, inside, c.self.invariant.0.full) in
+    let some : 0 < c.args.count = omega arith in
     rw (← c.self.view_is, c.in_ok-scroll_region_up.ensures.ok) (record {
       widths = refl;
       width = refl;
@@ -40,7 +41,7 @@ returns-clause-ok g c =
       full = refl;
       log = refl;
       mark = refl;
-      rows = marks-rows _ c.args.first c.args.size _ _ _ _ _ _ _ c.mark_rows.ensures.marked
+      rows = marks-range _ _ _ c.args.first c.args.size (range-scroll _ c.args.first c.args.size c.args.count some) c.mark_rows.ensures.marked
           (λ j out. up-outside _ (cells_of c.self.inside.rows.items) c.args.first c.args.size c.args.count j [] long out)
           (λ j out. rw c.in_ok-scroll_region_up.ensures.flags (up-outside no_flags (row_flags c.self.inside.rows.items) c.args.first c.args.size c.args.count j no_flags (omega (arith, long, length-map c.self.inside.rows.items (λ l. l.flags), length-cells_of c.self.inside.rows.items)) out));
       screen_is = rw (rows-up c.self.inside.width (cells_of c.self.inside.rows.items) c.args.first c.args.size c.args.count) refl;
@@ -52,3 +53,8 @@ returns-clause-ok g c =
         color = c.self.inside.color;
       };
     })
+
+pub returns-then-count-eq0-clause-ok : goal.returns-then-count-eq0-clause-ok
+returns-then-count-eq0-clause-ok g c =
+    let none : c.args.count ≡ 0 = omega arith in
+    up-still c.args.self.now c.args.first c.args.size c.args.count none

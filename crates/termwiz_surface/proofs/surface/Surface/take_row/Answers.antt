@@ -13,8 +13,8 @@ use Rattle.termwiz_screen.proofs.Lines.{cells-set, length-cells_of, row-read}
 use Rattle.termwiz_screen.proofs.RowChanges.Scrolled.{vectors-set}
 use Rattle.termwiz_surface.specs.ScrolledOff.{ScrollsOff}
 use Rattle.termwiz_surface.specs.Surface.{SurfaceValue, IsSound, screen_of}
-use Rattle.termwiz_surface.proofs.RowNumbers.{marks-rows}
-use Rattle.termwiz_surface.proofs.ScrolledOff.{IsSound-taken, lengths-set, rows-set, set-outside}
+use Rattle.termwiz_surface.proofs.RowNumbers.{marks-one, set-outside}
+use Rattle.termwiz_surface.proofs.ScrolledOff.{IsSound-taken, lengths-set, rows-set}
 use Rattle.termwiz_surface.proofs.surface.Surface.take_row.Goals as goal
 
 pub invariant_of-self : goal.invariant_of-self
@@ -42,9 +42,9 @@ returns-clause-ok g c =
       full = refl;
       log = refl;
       mark = refl;
-      rows = marks-rows _ c.args.row 1 _ _ _ _ _ _ _ c.mark_row.ensures.marked
-          (λ j out. set-outside (cells_of items) c.args.row j row [] out)
-          (λ j out. set-outside (row_flags items) c.args.row j no_flags no_flags out);
+      rows = marks-one c.args.row _ _ c.mark_row.ensures.marked
+          (set-outside (cells_of items) c.args.row row [])
+          (set-outside (row_flags items) c.args.row no_flags no_flags);
       screen_is = rw (rows-set c.self.inside.width (cells_of items) c.args.row) refl;
       kept_is = λ i. record {
         lengths = lengths-set c.self.inside.width (cells_of items) c.args.row i;

@@ -1,4 +1,5 @@
 use Rattle.std.proofs.Common.{take, replicate}
+use Rattle.std.specs.Prelude.{nat_lt}
 use Rattle.termwiz_cell.specs.CellValue.{blank}
 use Rattle.termwiz_line.specs.LineFlags.{no_flags}
 use Rattle.termwiz_surface.specs.ScrolledOff.{ScrollsOff, topped}
@@ -11,6 +12,6 @@ invariant-loop-row g l =
     let s = screen_of l.fn.self in
     let k = kept_of l.fn.self in
     record {
-      taken : Becomes l.fn.self (record s { rows = topped (replicate s.width blank) l.row s.rows }) (record k { lengths = topped s.width l.row k.lengths; flags = topped no_flags l.row k.flags }) l.self;
+      taken : Becomes l.fn.self (record s { rows = topped (replicate s.width blank) l.row s.rows }) (record k { lengths = topped s.width l.row k.lengths; flags = topped no_flags l.row k.flags }) (λ j. nat_lt j l.row) l.self;
       lines : ScrollsOff l.fn.self.width (take l.row s.rows) l.fn.scrollback.lines.items l.scrollback.lines.items;
     }

@@ -1,10 +1,13 @@
-use Rattle.std.proofs.Common.{◌≡◌, ◌≤◌}
+use Rattle.std.proofs.Common.{◌≡◌, ◌<◌, ◌≤◌, ℕ, min, get_or}
 use Rattle.std.specs.Prelude.{vec_capacity, vec_len}
+use Rattle.termwiz_surface.specs.Surface.{numbers_over}
 use Rattle.termwiz_surface.proofs.surface.numbers.RowNumbers.renew.Given as goal
 
--- so many rows are there, and there is room for the others
+-- so many rows have their old numbers, or none, and there is room for the others
 abbrev pub invariant-loop-row : goal.invariant-loop-row
 invariant-loop-row l = record {
+  numbers : (j : ℕ) → j < l._row → get_or l.self.own.items j 0 ≡ get_or (numbers_over l.fn.self.all l.fn.self.own.items) j 0;
+  from : min l.height (vec_len l.fn.self.own) ≤ l._row;
   all : l.self.all ≡ l.number;
   len : vec_len l.self.own ≡ l._row;
   room : l.height ≤ vec_capacity l.self.own;

@@ -21,6 +21,7 @@ pub mod Prefixes
 pub mod Widening
 pub mod MoreBytes
 pub mod AnswerHeads
+pub mod CutLinks
 pub mod Resuming
 pub mod PastLimits
 pub mod LineFeeds

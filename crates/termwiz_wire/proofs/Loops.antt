@@ -41,11 +41,11 @@ Param = List ℕ × List ℕ
 abbrev param_added : List Param → Param → List Param
 param_added s x = s ++ x ∷ []
 
-params_none : (room : ℕ) (s : List Param) (bytes : List ℕ) → params_at room s zero bytes ≡ Ok (s, bytes)
+pub params_none : (room : ℕ) (s : List Param) (bytes : List ℕ) → params_at room s zero bytes ≡ Ok (s, bytes)
 unfolding params_at
 params_none room s bytes = refl
 
-params_some : (room : ℕ) (s : List Param) (n : ℕ) (bytes : List ℕ) → params_at room s (suc n) bytes ≡ (param_at room s bytes >>= λ x. params_at room (s ++ x.0 ∷ []) n x.1)
+pub params_some : (room : ℕ) (s : List Param) (n : ℕ) (bytes : List ℕ) → params_at room s (suc n) bytes ≡ (param_at room s bytes >>= λ x. params_at room (s ++ x.0 ∷ []) n x.1)
 unfolding params_at
 params_some room s n bytes = refl
 
@@ -69,7 +69,7 @@ each_none : (measure : List ℕ → ℕ) (room : ℕ) (head : Option Head) (s : 
 unfolding each_at
 each_none measure room head s bytes = refl
 
-each_some : (measure : List ℕ → ℕ) (room : ℕ) (head : Option Head) (s : List ChangeValue) (n : ℕ) (bytes : List ℕ) → each_at measure room head s (suc n) bytes ≡ (halted (Some (length s)) (next_at measure room head (spent_on head s) bytes) >>= λ x. each_at measure room head (s ++ x.0 ∷ []) n x.1)
+pub each_some : (measure : List ℕ → ℕ) (room : ℕ) (head : Option Head) (s : List ChangeValue) (n : ℕ) (bytes : List ℕ) → each_at measure room head s (suc n) bytes ≡ (halted (Some (length s)) (next_at measure room head (spent_on head s) bytes) >>= λ x. each_at measure room head (s ++ x.0 ∷ []) n x.1)
 unfolding each_at
 each_some measure room head s n bytes = refl
 

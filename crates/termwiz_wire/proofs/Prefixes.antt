@@ -1,5 +1,5 @@
 -- What bytes of changes and answers decide, when more may come behind them.
-use Rattle.std.proofs.Common.{◌≡◌, ◌≢◌, ℕ, zero, suc, ◌+◌, ◌*◌, ◌/◌, ◌%◌, ◌^◌, Bool, true, false, not, ◌&&◌, ◌||◌, cond, ltb, eqb, List, [], ◌∷◌, ◌++◌, length, drop, Option, Some, None, Result, Ok, Err, refl, ap, subst, arith, inl, inr}
+use Rattle.std.proofs.Common.{◌≡◌, ◌≢◌, ℕ, zero, suc, ◌+◌, ◌*◌, ◌/◌, ◌%◌, ◌^◌, Bool, true, false, not, ◌&&◌, ◌||◌, cond, ltb, eqb, List, [], ◌∷◌, ◌++◌, length, drop, Option, Some, None, Result, Ok, Err, refl, ap, subst, ◌∙◌, arith, inl, inr}
 use Rattle.std.proofs.lemmas.List.{length-append}
 use Rattle.std.specs.Str.{chars}
 use Rattle.cbor.specs.declared.error.FaultKind.{FaultKind}
@@ -10,12 +10,14 @@ use Rattle.cbor.specs.declared.kind.Kind.TheVariants as kinds
 use Rattle.cbor.specs.Decoding.{◌>>=◌, Stop, ok, allowed, unsigned_at, array_at, list_at, text_at}
 use Rattle.cbor.specs.Prefixes.{left, behind, fault, Stays, Decides, Reads}
 use Rattle.cbor.proofs.Prefixes.{chain, bind, bind_rest, look, choose, done, done_rest, fails, unsigned_reads, array_reads, list_reads, below_reads, signed_reads, boolean_reads, null_reads, text_reads, array_of_reads, kind_reads}
+use Rattle.termwiz_cell.specs.Attributes.{Attributes}
 use Rattle.termwiz_cell.specs.ChangeValue.{ChangeValue}
 use Rattle.termwiz_cell.specs.ChangeValue as changed
 use Rattle.termwiz_wire.specs.Encoding.{fields}
 use Rattle.termwiz_wire.specs.Pieces.{runs, stands_out, needs_pieces}
 use Rattle.termwiz_wire.specs.Cuts.{refused, is_rest_at, is_run_at, are_at, same_at, is_count, are_characters, are_columns, kept_at, run_at, no_run, runs_at, threes_at, cut_at, others_at, pieces_at, pieces_by}
 use Rattle.termwiz_wire.specs.Decoding.{which_at, palette_at, rgb_at, rgb_palette_at, color_by, color_at, split, are_small, style_limit, style_at, ascends, key_at, param_at, params_at, link_at, optional_link_by, optional_link_at, attributes_at, attribute_change_by, attribute_change_at, position_by, position_at, place_at, is_on, region_size_at, scroll_at, printed_at, change_by, count_at, has_count, change_kind_at, change_at}
+use Rattle.termwiz_wire.specs.CutLinks.{LinkPart, before_link_at, before_link_by, link_alone_at, link_begun_at, link_item_at, link_item_by, link_part_at, param_key_at}
 use Rattle.termwiz_wire.specs.Answers.{version_at, body_at, opened_at, source_at, size_at, height_at, number_at, asked_at, ask_in, head_at, halted, next_at, each_at, changes_in, answer_in}
 use Rattle.termwiz_wire.specs.MoreBytes.{halt}
 use Rattle.termwiz_wire.specs.Screens.{is_past}
@@ -270,6 +272,38 @@ pub change_reads : (measure : List ℕ → ℕ) (rows : Option ℕ) → Reads fa
 unfolding change_at
 change_reads measure rows = bind _ count_reads (λ count. bind _ (change_kind_reads count) (λ kind. change_by_reads measure rows count kind))
 
+-- ---- links that are cut
+
+link_alone_reads : Reads fault left link_alone_at
+unfolding link_alone_at
+link_alone_reads = bind_rest _ (array_of_reads 2) (bind _ (which_reads 10) (λ kind. choose (eqb kind 9) _ _ done (refused_reads faults.Type (λ is. cc))))
+
+before_link_reads : Reads fault left before_link_at
+unfolding before_link_at
+before_link_reads = bind_rest _ (array_of_reads 5) (bind _ style_reads (λ n. bind _ color_reads (λ f. bind _ color_reads (λ b. bind _ color_reads (λ u. done)))))
+
+before_link_by_reads : (kind : ℕ) → Reads fault left (λ room rest. before_link_by room kind rest)
+before_link_by_reads kind = choose (eqb kind 0) _ _ link_alone_reads (choose (eqb kind 1) _ _ before_link_reads (refused_reads faults.Type (λ is. cc)))
+
+link_part_reads : (attributes : Option Attributes) → Reads fault left (λ room bytes. link_part_at room attributes bytes)
+unfolding link_part_at
+link_part_reads attributes = bind_rest _ (array_of_reads 3) (bind _ text_reads (λ uri. bind _ boolean_reads (λ implicit. bind _ list_reads (λ count. done))))
+
+pub link_begun_reads : Reads fault left link_begun_at
+unfolding link_begun_at
+link_begun_reads = bind _ count_reads (λ count. bind _ (change_kind_reads count) (λ kind. bind _ (before_link_by_reads kind) link_part_reads))
+
+param_key_reads : (made : List (List ℕ × List ℕ)) → Reads fault left (λ room bytes. param_key_at room made bytes)
+unfolding param_key_at
+param_key_reads made = bind_rest _ (array_of_reads 2) (key_reads made)
+
+link_item_by_reads : (part : LinkPart) (key : Option (List ℕ)) → Reads fault left (λ room bytes. link_item_by room part key bytes)
+link_item_by_reads part None = bind _ (param_key_reads part.params) (λ key. done)
+link_item_by_reads part (Some key) = bind _ text_reads (λ value. done)
+
+pub link_item_reads : (part : LinkPart) → Reads fault left (λ room bytes. link_item_at room part bytes)
+link_item_reads part = link_item_by_reads part part.key
+
 -- ---- the heads of answers
 
 version_reads : Reads fault behind version_at
@@ -341,3 +375,13 @@ changes_reads measure head = bind _ (halted_reads None list_reads) (λ n. each_r
 pub answer_reads : (measure : List ℕ → ℕ) (limits : Limits) → Reads halt left (λ room bytes. answer_in measure room limits bytes)
 unfolding answer_in
 answer_reads measure limits = bind _ (halted_reads None (head_reads limits)) (λ head. bind _ (each_reads measure (Some head) [] head.count) (λ changes. done))
+
+-- ---- what was decoded
+
+stays_ok : {Y E : Type 0} (fe : E → FaultKind) (grow : Y → List ℕ → Y) (more : List ℕ) (r later : Result Y E) (y : Y) → r ≡ Ok y → Stays fe grow more r later → later ≡ Ok (grow y more)
+stays_ok fe grow more r later y is stays = subst (λ (s : Result _ _). Stays fe grow more s later) is stays
+
+-- a value that was decoded is there still, with the bytes that come behind
+pub still : {A : Type 0} {read : ℕ → List ℕ → Result (A × List ℕ) Stop} → Reads fault left read → (room later : ℕ) (bytes near : List ℕ) (x : A × List ℕ) → length near + later ≡ room → read room bytes ≡ Ok x → read later (bytes ++ near) ≡ Ok (x.0, x.1 ++ near)
+still {read = read} reads room later bytes near x all is =
+    stays_ok fault left near (read (length near + later) bytes) (read later (bytes ++ near)) x (ap (λ (n : ℕ). read n bytes) all ∙ is) (reads.stays later bytes near)

@@ -1,25 +1,28 @@
 -- The decoding of an answer goes on from what is begun of it.
-use Rattle.std.proofs.Common.{◌≡◌, ◌≢◌, ℕ, ◌+◌, ◌-◌, ◌<◌, ◌≤◌, ◌^◌, Bool, true, false, List, [], ◌∷◌, ◌++◌, length, take, drop, Option, Some, None, Result, Ok, Err, refl, sym, ap, subst, ◌∙◌, append_assoc, append-nil, arith}
+use Rattle.std.proofs.Common.{◌≡◌, ◌≢◌, ℕ, suc, ◌+◌, ◌-◌, ◌<◌, ◌≤◌, ◌^◌, Bool, true, false, List, [], ◌∷◌, ◌++◌, length, take, drop, Option, Some, None, Result, Ok, Err, refl, sym, ap, subst, ◌∙◌, append_assoc, append-nil, arith}
 use Rattle.std.specs.Option.{ForSome}
-use Rattle.std.specs.Prelude.{map, IfSome, Vec}
+use Rattle.std.specs.Prelude.{map, option_map, IfSome, Vec}
 use Rattle.std.specs.declared.alloc.Global.{Global}
 use Rattle.std.proofs.lemmas.List.{length-append, length-drop, take-append-drop, take_all, drop-append-le, drop_at}
-use Rattle.cbor.specs.declared.error.FaultKind.{FaultKind}
 use Rattle.cbor.specs.declared.error.FaultKind.TheVariants.{Truncated}
 use Rattle.cbor.specs.declared.error.ReadError.{ReadError}
 use Rattle.cbor.specs.declared.error.ReadError.TheVariants as read_errors
 use Rattle.cbor.specs.Decoding.{◌>>=◌, Stop, Stops, IsBytes, allowed, ok, fault_of}
 use Rattle.cbor.specs.Encoding.{array}
-use Rattle.cbor.specs.Prefixes.{left, fault, Stays}
 use Rattle.termwiz_cell.specs.ChangeValue.{ChangeValue, change_value}
 use Rattle.termwiz_cell.specs.declared.change.Change.{Change}
+use Rattle.termwiz_wire.specs.CutLinks.{IsLinkPart, LinkPart, has_item, link_change, link_change_by, link_rest_at, part_of}
 use Rattle.termwiz_wire.specs.Answers.{Decodes, Halt, answer_at, answer_in, each_at, next_at, error_of, fault_at, halted, head_at, located, sent_of}
-use Rattle.termwiz_wire.specs.Work.{most_work, spent_on}
+use Rattle.termwiz_cell.specs.Attributes.{Attributes}
+use Rattle.termwiz_cell.specs.Link.{Link}
+use Rattle.termwiz_wire.specs.Work.{cost, most_work, spent_on}
+use Rattle.termwiz_wire.proofs.Bounds.{spent_more}
 use Rattle.termwiz_wire.specs.Encoding.{change}
-use Rattle.termwiz_wire.specs.Resuming.{GoesOn, HasGoneOn, IsUnfinished, LeadsOn, Resumes, left_at, rest_at, resumed_in}
+use Rattle.termwiz_wire.specs.Resuming.{BeginsLink, GoesOn, HasGoneOn, HasReached, HasReadOn, IsCut, IsUnfinished, LeadsOn, ReachesBy, ReachesItem, Resumes, left_at, rest_at, resumed_by, resumed_in}
 use Rattle.termwiz_wire.specs.Lent.{lent_answer}
 use Rattle.termwiz_wire.specs.Sent.{answer}
 use Rattle.termwiz_wire.specs.declared.decode.begun.Begun.{Begun}
+use Rattle.termwiz_wire.specs.declared.decode.cut_links.BegunLink.{BegunLink}
 use Rattle.termwiz_wire.specs.declared.decode.begun.NoAnswer.TheVariants as no_answers
 use Rattle.termwiz_wire.specs.declared.decode.halted.Halted.{Halted}
 use Rattle.termwiz_wire.specs.declared.decode.heads.Head.{Head}
@@ -29,25 +32,29 @@ use Rattle.termwiz_wire.specs.declared.sent.LentAnswer.{LentAnswer}
 use Rattle.termwiz_wire.specs.declared.sent.SentAnswer.{SentAnswer}
 use Rattle.termwiz_wire.proofs.AnswersFound.{answer_takes, head_bytes, head_takes}
 use Rattle.termwiz_wire.proofs.Each.{next_found}
-use Rattle.termwiz_wire.proofs.Loops.{each_go_on, each_end, each_done}
-use Rattle.termwiz_wire.proofs.Prefixes.{next_reads, head_reads}
+use Rattle.termwiz_wire.proofs.Loops.{each_go_on, each_end, each_done, each_some}
+use Rattle.termwiz_wire.proofs.CutLinks.{begun_end, item_done, item_stop, next_is, read_here, same_then, then_then}
+use Rattle.termwiz_wire.proofs.Prefixes.{head_reads, link_begun_reads, next_reads, still}
 use Rattle.termwiz_wire.proofs.Within.{Stopped, Took, if_some, stopped_at, took}
 
 abbrev some : {A : Type 0} → A → Option A
 some x = Some x
 
--- ---- a value that was decoded is there still, with the bytes that come behind
+abbrev sent_behind : Head → List ChangeValue × List ℕ → Result (SentAnswer × List ℕ) Halt
+sent_behind head changes = ok (sent_of head changes.0) changes.1
 
-stays_ok : {Y E : Type 0} (fe : E → FaultKind) (grow : Y → List ℕ → Y) (more : List ℕ) (r later : Result Y E) (y : Y) → r ≡ Ok y → Stays fe grow more r later → later ≡ Ok (grow y more)
-stays_ok fe grow more r later y is stays = subst (λ (s : Result _ _). Stays fe grow more s later) is stays
+-- the next change, and those behind it
+next_left : (measure : List ℕ → ℕ) (room : ℕ) (head : Head) (more : List ChangeValue) (bytes : List ℕ) → length more < head.count → left_at measure room head more bytes ≡ (halted (Some (length more)) (next_at measure room (Some head) (spent_on (Some head) more) bytes) >>= λ x. left_at measure room head (more ++ x.0 ∷ []) x.1)
+next_left measure room head more bytes lt =
+    let k : head.count - length more ≡ suc (head.count - (length more + 1)) = omega (arith, lt) in
+    ap (λ (n : ℕ). each_at measure room (Some head) more n bytes) k
+    ∙ each_some measure room (Some head) more (head.count - (length more + 1)) bytes
+    ∙ same_then (halted (Some (length more)) (next_at measure room (Some head) (spent_on (Some head) more) bytes)) _ _ (λ x. ap (λ (n : ℕ). each_at measure room (Some head) (more ++ x.0 ∷ []) (head.count - n) x.1) (sym (length-append more (x.0 ∷ []))))
 
-next_stays : (measure : List ℕ → ℕ) (head : Option Head) (spent room later : ℕ) (bytes near rest : List ℕ) (c : ChangeValue) → length near + later ≡ room → next_at measure room head spent bytes ≡ Ok (c, rest) → next_at measure later head spent (bytes ++ near) ≡ Ok (c, rest ++ near)
-next_stays measure head spent room later bytes near rest c all is =
-    stays_ok fault left near (next_at measure (length near + later) head spent bytes) (next_at measure later head spent (bytes ++ near)) (c, rest) (ap (λ (n : ℕ). next_at measure n head spent bytes) all ∙ is) ((next_reads measure head spent).stays later bytes near)
-
-head_stays : (room later : ℕ) (limits : Limits) (bytes near rest : List ℕ) (head : Head) → length near + later ≡ room → head_at room limits bytes ≡ Ok (head, rest) → head_at later limits (bytes ++ near) ≡ Ok (head, rest ++ near)
-head_stays room later limits bytes near rest head all is =
-    stays_ok fault left near (head_at (length near + later) limits bytes) (head_at later limits (bytes ++ near)) (head, rest) (ap (λ (n : ℕ). head_at n limits bytes) all ∙ is) ((head_reads limits).stays later bytes near)
+-- a link takes no work
+unspent : (head : Head) (spent : ℕ) (attributes : Option Attributes) (link : Link) → spent + cost (Some head) (link_change_by attributes link) ≡ spent
+unspent head spent None link = omega arith
+unspent head spent (Some a) link = omega arith
 
 -- ---- one change behind another
 
@@ -68,7 +75,7 @@ module _ (measure : List ℕ → ℕ) (room : ℕ) (head : Head) (made : List Ch
           front = gone.front ++ change measure c;
           parts = gone.parts ∙ ap (λ (t : List ℕ). gone.front ++ t) t.parts ∙ sym (append_assoc gone.front (change measure c) after);
           same = λ near later all.
-              let next : next_at measure later (Some head) spent (rest ++ near) ≡ Ok (c, after ++ near) = next_stays measure (Some head) spent room later rest near after c all is in
+              let next : next_at measure later (Some head) spent (rest ++ near) ≡ Ok (c, after ++ near) = still (next_reads measure (Some head) spent) room later rest near (c, after) all is in
               let total : Result (List ChangeValue × List ℕ) Halt = left_at measure later head made (bytes ++ near) in
               sym (rw len (each_go_on measure later (Some head) more head.count (length more) (rest ++ near) c (after ++ near) total lt next (sym (gone.same near later all))));
         },
@@ -87,6 +94,43 @@ module _ (measure : List ℕ → ℕ) (room : ℕ) (head : Head) (made : List Ch
   -- the next one has no value
   pub gone_stopped : (more : List ChangeValue) (rest : List ℕ) (at : ℕ) (e : ReadError) → Gone more rest → length more < head.count → Stops at e (next_at measure room (Some head) (spent_on (Some head) more) rest) → IfSome (fault_of e) (λ f. left_at measure room head made bytes ≡ Err (record { stop = record { fault = f; left = at }; change = Some (length more) }))
   gone_stopped more rest at e gone lt stops = each_end measure room (Some head) at e more head.count (length more) rest (left_at measure room head made bytes) lt refl stops (sym (gone_here more rest gone))
+
+  -- ---- the next one is cut
+
+  pub gone_halted : (more : List ChangeValue) (rest : List ℕ) (s : Stop) → Gone more rest → length more < head.count → next_at measure room (Some head) (spent_on (Some head) more) rest ≡ Err s → left_at measure room head made bytes ≡ Err (record { stop = s; change = Some (length more) })
+  gone_halted more rest s gone lt is = gone_here more rest gone ∙ next_left measure room head more rest lt ∙ ap (λ (r : Result (ChangeValue × List ℕ) Stop). halted (Some (length more)) r >>= λ x. left_at measure room head (more ++ x.0 ∷ []) x.1) is
+
+-- what is begun of a link, or that none is
+record BeginsOn (measure : List ℕ → ℕ) (room : ℕ) (head : Head) (more : List ChangeValue) (rest : List ℕ) (link : Option LinkPart) (after : List ℕ) : Type 0 where
+  front : List ℕ
+  parts : rest ≡ front ++ after
+  keys : IfSome link IsLinkPart
+  same : (near : List ℕ) (later : ℕ) → length near + later ≡ room → rest_at measure later head more (rest ++ near) ≡ resumed_by measure later head more link (after ++ near)
+  reached : ReachesBy measure room head more link after
+
+begins_on : (measure : List ℕ → ℕ) (room : ℕ) (head : Head) (more : List ChangeValue) (rest : List ℕ) → IsBytes rest → length more < head.count → spent_on (Some head) more ≤ most_work head.width head.height → IsCut (next_at measure room (Some head) (spent_on (Some head) more) rest) → (link : Option LinkPart) (after : List ℕ) → BeginsLink room rest link after → BeginsOn measure room head more rest link after
+begins_on measure room head more rest fits lt few cut None after begins =
+    subst (λ (t : List ℕ). BeginsOn measure room head more rest None t) (sym begins.0) (record {
+      front = [];
+      parts = refl;
+      keys = tt;
+      same = λ near later all. refl;
+      reached = record { cut = cut; unbegun = begins.1 };
+    })
+begins_on measure room head more rest fits lt few cut (Some part) after begins =
+    let x : LinkPart × List ℕ = begins.0 in
+    let end = begun_end room rest x fits begins.1 in
+    record {
+      front = end.front ++ begins.2.front;
+      parts = end.parts ∙ ap (λ (t : List ℕ). end.front ++ t) begins.2.parts ∙ sym (append_assoc end.front begins.2.front after);
+      keys = begins.2.keys;
+      same = λ near later all.
+          let next : next_at measure later (Some head) (spent_on (Some head) more) (rest ++ near) ≡ link_rest_at later part (after ++ near) = next_is measure later head (spent_on (Some head) more) (rest ++ near) (x.0, x.1 ++ near) few (still link_begun_reads room later rest near x all begins.1) ∙ begins.2.same near later all in
+          ap (λ (r : Result (List ChangeValue × List ℕ) Halt). r >>= sent_behind head) (next_left measure later head more (rest ++ near) lt)
+          ∙ then_then (halted (Some (length more)) (next_at measure later (Some head) (spent_on (Some head) more) (rest ++ near))) _ _
+          ∙ ap (λ (r : Result (ChangeValue × List ℕ) Stop). halted (Some (length more)) r >>= λ first. rest_at measure later head (more ++ first.0 ∷ []) first.1) next;
+      reached = begins.3;
+    }
 
 -- ---- what leads on
 
@@ -111,9 +155,6 @@ for_none P = λ y e. absurd cc
 pub slice_from : (bytes : List ℕ) (start : ℕ) → take (length bytes - start) (drop start bytes) ≡ drop start bytes
 slice_from bytes start = take_all (length bytes - start) (drop start bytes) (omega (arith, length-drop start bytes))
 
-abbrev sent_behind : Head → List ChangeValue × List ℕ → Result (SentAnswer × List ℕ) Halt
-sent_behind head changes = ok (sent_of head changes.0) changes.1
-
 module _ (measure : List ℕ → ℕ) (limits : Limits) (bytes : List ℕ) where
   abbrev hand : List ℕ
   hand = take limits.bytes bytes
@@ -122,7 +163,7 @@ module _ (measure : List ℕ → ℕ) (limits : Limits) (bytes : List ℕ) where
   room = limits.bytes - length bytes
 
   -- the head leads on
-  pub leads_first : (head : Head) (changes : Vec Change Global) (rest : List ℕ) (n : ℕ) → (0 < head.width) × (head.width < 2 ^ 32) → (0 < head.height) × (head.height < 2 ^ 32) → head.base ≤ head.number → IsBytes hand → head_at room limits hand ≡ Ok (head, rest) → changes.items ≡ [] → n ≡ length hand - length rest → LeadsOn measure limits (record { head = head; changes = changes; taken = n; spent = 0 }) bytes
+  pub leads_first : (head : Head) (changes : Vec Change Global) (rest : List ℕ) (n : ℕ) → (0 < head.width) × (head.width < 2 ^ 32) → (0 < head.height) × (head.height < 2 ^ 32) → head.base ≤ head.number → IsBytes hand → head_at room limits hand ≡ Ok (head, rest) → changes.items ≡ [] → n ≡ length hand - length rest → LeadsOn measure limits (record { head = head; changes = changes; spent = 0; link = None; taken = n }) bytes
   unfolding answer_in
   leads_first head changes rest n width height numbers fits is none n_is =
       let found = head_takes room limits hand (head, rest) fits is in
@@ -134,9 +175,10 @@ module _ (measure : List ℕ → ℕ) (limits : Limits) (bytes : List ℕ) where
         taken = (behind_front (head_bytes head ++ array head.count) hand rest [] n parts n_is).0;
         spent = ap (λ (cs : List Change). spent_on (Some head) (map change_value cs)) (sym none);
         borne = omega arith;
+        link = tt;
         same = λ near later all.
             let after : drop n (hand ++ near) ≡ rest ++ near = (behind_front (head_bytes head ++ array head.count) hand rest near n parts n_is).1 in
-            let later_head : head_at later limits (hand ++ near) ≡ Ok (head, rest ++ near) = head_stays room later limits hand near rest head all is in
+            let later_head : head_at later limits (hand ++ near) ≡ Ok (head, rest ++ near) = still (head_reads limits) room later hand near (head, rest) all is in
             let count : head.count ≡ head.count - length {A = ChangeValue} [] = omega arith in
             ap (λ (r : Result (Head × List ℕ) Stop). halted None r >>= λ h. each_at measure later (Some h.0) [] h.0.count h.1 >>= sent_behind h.0) later_head
             ∙ ap (λ (k : ℕ). each_at measure later (Some head) [] k (rest ++ near) >>= sent_behind head) count
@@ -192,68 +234,152 @@ module _ (measure : List ℕ → ℕ) (limits : Limits) (bytes : List ℕ) where
   -- ---- from what is begun
 
   module _ (begun : Begun) (leads : LeadsOn measure limits begun bytes) where
-    abbrev Left : List ChangeValue → List ℕ → Type 0
-    Left more rest = HasGoneOn measure room begun.head (map change_value begun.changes.items) (drop begun.taken hand) more rest
+    abbrev made : List ChangeValue
+    made = map change_value begun.changes.items
 
-    abbrev left_of : Result (List ChangeValue × List ℕ) Halt
-    left_of = left_at measure room begun.head (map change_value begun.changes.items) (drop begun.taken hand)
+    abbrev start : List ℕ
+    start = drop begun.taken hand
 
-    -- so do the changes that were decoded
-    pub leads_more : (changes : Vec Change Global) (rest : List ℕ) (n spent : ℕ) → Left (map change_value changes.items) rest → n ≡ length hand - length rest → spent ≡ spent_on (Some begun.head) (map change_value changes.items) → spent ≤ most_work begun.head.width begun.head.height → LeadsOn measure limits (record { head = begun.head; changes = changes; taken = n; spent = spent }) bytes
-    leads_more changes rest n spent gone n_is spent_is borne =
-        let head : Head = begun.head in
-        let front : List ℕ = take begun.taken hand ++ gone.front in
-        let parts : hand ≡ front ++ rest = sym (take-append-drop begun.taken hand) ∙ ap (λ (t : List ℕ). take begun.taken hand ++ t) gone.parts ∙ sym (append_assoc (take begun.taken hand) gone.front rest) in
-        record {
-          width = leads.width;
-          height = leads.height;
-          numbers = leads.numbers;
-          taken = (behind_front front hand rest [] n parts n_is).0;
-          spent = spent_is;
-          borne = borne;
-          same = λ near later all.
-              leads.same near later all
-              ∙ ap (rest_at measure later head (map change_value begun.changes.items)) (drop-append-le begun.taken hand near leads.taken)
-              ∙ ap (λ (r : Result (List ChangeValue × List ℕ) Halt). r >>= sent_behind head) (gone.same near later all)
-              ∙ ap (rest_at measure later head (map change_value changes.items)) (sym (behind_front front hand rest near n parts n_is).1);
-        }
+    -- the bytes that were taken
+    taken_front : (front rest : List ℕ) → start ≡ front ++ rest → hand ≡ (take begun.taken hand ++ front) ++ rest
+    taken_front front rest parts = sym (take-append-drop begun.taken hand) ∙ ap (λ (t : List ℕ). take begun.taken hand ++ t) parts ∙ sym (append_assoc (take begun.taken hand) front rest)
 
-    -- the whole answer
-    pub leads_whole : (more : List ChangeValue) (rest : List ℕ) → left_of ≡ Ok (more, rest) → answer_in measure room limits hand ≡ Ok (sent_of begun.head more, rest)
-    leads_whole more rest is = leads_here begun leads ∙ ap (λ (r : Result (List ChangeValue × List ℕ) Halt). r >>= sent_behind begun.head) is
+    -- what is begun, of a link or of none
+    from_begun : (link : Option BegunLink) → begun.link ≡ link → (near : List ℕ) (later : ℕ) → length near + later ≡ room → answer_in measure later limits (hand ++ near) ≡ resumed_by measure later begun.head made (option_map part_of link) (start ++ near)
+    from_begun link is near later all =
+        leads.same near later all
+        ∙ ap (λ (l : Option BegunLink). resumed_by measure later begun.head made (option_map part_of l) (drop begun.taken (hand ++ near))) is
+        ∙ ap (resumed_by measure later begun.head made (option_map part_of link)) (drop-append-le begun.taken hand near leads.taken)
 
-    -- no answer
-    pub leads_halted : (h : Halt) → left_of ≡ Err h → answer_in measure room limits hand ≡ Err h
-    leads_halted h is = leads_here begun leads ∙ ap (λ (r : Result (List ChangeValue × List ℕ) Halt). r >>= sent_behind begun.head) is
+    begun_here : (link : Option BegunLink) → begun.link ≡ link → answer_in measure room limits hand ≡ resumed_by measure room begun.head made (option_map part_of link) start
+    begun_here link is = ap (answer_in measure room limits) (sym (append-nil hand)) ∙ from_begun link is [] room (omega arith) ∙ ap (resumed_by measure room begun.head made (option_map part_of link)) (append-nil start)
 
-    pub leads_stopped : (e : ReadError) (at : ℕ) (change : Option ℕ) → IfSome (fault_of e) (λ f. left_of ≡ Err (record { stop = record { fault = f; left = at }; change = change })) → Stopped e change at (answer_in measure room limits hand)
-    leads_stopped e at change stops = if_some (fault_of e) _ _ (λ f is. leads_halted (record { stop = record { fault = f; left = at }; change = change }) is) stops
+    -- so does what was decoded from there on
+    module _ (link : Option BegunLink) (is : begun.link ≡ link) (changes : Vec Change Global) (next : Option BegunLink) (front rest : List ℕ) (n spent : ℕ) where
+      abbrev later_begun : Begun
+      later_begun = record { head = begun.head; changes = changes; spent = spent; link = next; taken = n }
 
-    module _ (r : ℕ) (start : List ℕ) (made more : List ChangeValue) (later : ℕ) (rest : List ℕ) (r_is : r ≡ room) (made_is : made ≡ map change_value begun.changes.items) (start_is : start ≡ drop begun.taken hand) where
-      abbrev Goes : Result Bool Halted → Type 0
-      Goes result = GoesOn measure r begun.head made start result more (allowed later rest) rest
+      pub leads_later : start ≡ front ++ rest → n ≡ length hand - length rest → spent ≡ spent_on (Some begun.head) (map change_value changes.items) → spent ≤ most_work begun.head.width begun.head.height → IfSome (option_map part_of next) IsLinkPart → ((near : List ℕ) (later : ℕ) → length near + later ≡ room → resumed_by measure later begun.head made (option_map part_of link) (start ++ near) ≡ resumed_by measure later begun.head (map change_value changes.items) (option_map part_of next) (rest ++ near)) → LeadsOn measure limits later_begun bytes
+      leads_later parts n_is spent_is borne keys same =
+          let whole = taken_front front rest parts in
+          record {
+            width = leads.width;
+            height = leads.height;
+            numbers = leads.numbers;
+            taken = (behind_front (take begun.taken hand ++ front) hand rest [] n whole n_is).0;
+            spent = spent_is;
+            borne = borne;
+            link = keys;
+            same = λ near later all.
+                from_begun link is near later all
+                ∙ same near later all
+                ∙ ap (resumed_by measure later begun.head (map change_value changes.items) (option_map part_of next)) (sym (behind_front (take begun.taken hand ++ front) hand rest near n whole n_is).1);
+          }
 
-      abbrev GoesHere : Result Bool Halted → Type 0
-      GoesHere result = GoesOn measure room begun.head (map change_value begun.changes.items) (drop begun.taken hand) result more (allowed later rest) rest
+      -- it has all that is there
+      pub reaches_later : start ≡ front ++ rest → n ≡ length hand - length rest → ReachesBy measure room begun.head (map change_value changes.items) (option_map part_of next) rest → HasReached measure limits later_begun bytes
+      reaches_later parts n_is reached =
+          let behind : rest ≡ drop n hand = sym (append-nil rest) ∙ sym (behind_front (take begun.taken hand ++ front) hand rest [] n (taken_front front rest parts) n_is).1 ∙ ap (drop n) (append-nil hand) in
+          subst (λ (t : List ℕ). ReachesBy measure room begun.head (map change_value changes.items) (option_map part_of next) t) behind reached
 
-      goes_here : (result : Result Bool Halted) → Goes result → GoesHere result
-      goes_here result goes =
-          subst (λ (t : List ℕ). GoesOn measure room begun.head (map change_value begun.changes.items) t result more (allowed later rest) rest) start_is
-          (subst (λ (n : ℕ). GoesOn measure n begun.head (map change_value begun.changes.items) start result more (allowed later rest) rest) r_is
-          (subst (λ (cs : List ChangeValue). GoesOn measure r begun.head cs start result more (allowed later rest) rest) made_is goes))
+    -- ---- a link
 
-      -- all changes are there
-      pub goes_whole : (all : Bool) → all ≡ true → Goes (Ok all) → answer_in measure room limits hand ≡ Ok (sent_of begun.head more, rest)
-      goes_whole all is goes = leads_whole more rest (goes_here (Ok true) (subst (λ (b : Bool). Goes (Ok b)) is goes)).1
+    module _ (link : BegunLink) (is : begun.link ≡ Some link) where
+      abbrev LinkRead : LinkPart → List ℕ → Type 0
+      LinkRead more rest = HasReadOn room (part_of link) start more rest
+
+      -- its params are there
+      pub link_whole : (more : LinkPart) (rest : List ℕ) (changes : Vec Change Global) (n : ℕ) → LinkRead more rest → has_item more ≡ false → map change_value changes.items ≡ made ++ link_change more more.params ∷ [] → n ≡ length hand - length rest → LeadsOn measure limits (record { head = begun.head; changes = changes; spent = begun.spent; link = None; taken = n }) bytes
+      link_whole more rest changes n read none pushed n_is =
+          leads_later (Some link) is changes None read.front rest n begun.spent read.parts n_is
+          (leads.spent ∙ sym (ap (spent_on (Some begun.head)) pushed ∙ spent_more (Some begun.head) made (link_change more more.params) ∙ unspent begun.head (spent_on (Some begun.head) made) more.attributes _))
+          leads.borne tt
+          (λ near later all.
+          ap (λ (r : Result (ChangeValue × List ℕ) Stop). halted (Some (length made)) r >>= λ first. rest_at measure later begun.head (made ++ first.0 ∷ []) first.1) (read.same near later all ∙ item_done later more (rest ++ near) none)
+          ∙ ap (λ (cs : List ChangeValue). rest_at measure later begun.head cs (rest ++ near)) (sym pushed))
+
+      -- the answer has no value where the change has none
+      link_stop : (s : Stop) → link_rest_at room (part_of link) start ≡ Err s → answer_in measure room limits hand ≡ Err (record { stop = s; change = Some (length made) })
+      link_stop s stops = begun_here (Some link) is ∙ ap (λ (r : Result (ChangeValue × List ℕ) Stop). halted (Some (length made)) r >>= λ first. rest_at measure room begun.head (made ++ first.0 ∷ []) first.1) stops
 
       -- one is cut
-      pub goes_cut : (changes : Vec Change Global) (all : Bool) (n spent : ℕ) → map change_value changes.items ≡ more → all ≡ false → Goes (Ok all) → n ≡ length hand - length rest → spent ≡ spent_on (Some begun.head) more → spent ≤ most_work begun.head.width begun.head.height → Resumes measure limits bytes (Err (no_answers.Cut (Some (record { head = begun.head; changes = changes; taken = n; spent = spent }))))
-      goes_cut changes all n spent same is goes n_is spent_is borne =
-          let g = goes_here (Ok false) (subst (λ (b : Bool). Goes (Ok b)) is goes) in
-          (is_unfinished g.1 (leads_halted g.1 g.2) g.3, for_some (λ (b : Begun). LeadsOn measure limits b bytes) (record { head = begun.head; changes = changes; taken = n; spent = spent }) (leads_more changes rest n spent (subst (λ (cs : List ChangeValue). Left cs rest) (sym same) g.0) n_is (spent_is ∙ ap (spent_on (Some begun.head)) (sym same)) borne))
+      pub link_cut : (next : BegunLink) (rest : List ℕ) (n : ℕ) → LinkRead (part_of next) rest → ReachesItem room (part_of next) rest → n ≡ length hand - length rest → Resumes measure limits bytes (Err (no_answers.Cut (Some (record { head = begun.head; changes = begun.changes; spent = begun.spent; link = Some next; taken = n }))))
+      link_cut next rest n read reached n_is =
+          let later : Begun = record { head = begun.head; changes = begun.changes; spent = begun.spent; link = Some next; taken = n } in
+          let stops = read_here room (part_of link) start (part_of next) rest read ∙ item_stop room (part_of next) rest reached.cut.stop reached.some reached.cut.is in (
+            is_unfinished (record { stop = reached.cut.stop; change = Some (length made) }) (link_stop reached.cut.stop stops) reached.cut.cut,
+            for_some (λ (b : Begun). LeadsOn measure limits b bytes) later
+                (leads_later (Some link) is begun.changes (Some next) read.front rest n begun.spent read.parts n_is leads.spent leads.borne read.keys
+                (λ near later all. ap (λ (r : Result (ChangeValue × List ℕ) Stop). halted (Some (length made)) r >>= λ first. rest_at measure later begun.head (made ++ first.0 ∷ []) first.1) (read.same near later all))),
+            for_some (λ (b : Begun). HasReached measure limits b bytes) later
+                (reaches_later (Some link) is begun.changes (Some next) read.front rest n begun.spent read.parts n_is reached),
+          )
 
-      -- it fails
-      pub goes_failed : (h : Halted) (n : ℕ) (result : WireError) → later ≡ room → Goes (Err h) → n ≡ length hand - length rest → result ≡ error_of h.error n h.change → Resumes measure limits bytes (Err (no_answers.Failed result))
-      goes_failed h n result kept goes n_is result_is =
-          let g = goes_here (Err h) goes in
-          resumes_failed h.error h.change rest later n result g.0 kept (leads_stopped h.error (allowed later rest) h.change g.1) n_is result_is
+      -- they have a fault
+      pub link_failed : (e : ReadError) (rest : List ℕ) (later n : ℕ) (result : WireError) → e ≢ read_errors.Truncated → later ≡ room → Stops (allowed later rest) e (link_rest_at room (part_of link) start) → n ≡ length hand - length rest → result ≡ error_of e n (Some (length made)) → Resumes measure limits bytes (Err (no_answers.Failed result))
+      link_failed e rest later n result other kept stops n_is result_is =
+          resumes_failed e (Some (length made)) rest later n result other kept
+          (if_some (fault_of e) _ _ (λ f is. link_stop (record { fault = f; left = allowed later rest }) is) stops) n_is result_is
+
+    -- ---- changes
+
+    module _ (none : begun.link ≡ None) where
+      abbrev Left : List ChangeValue → List ℕ → Type 0
+      Left more rest = HasGoneOn measure room begun.head made start more rest
+
+      abbrev left_of : Result (List ChangeValue × List ℕ) Halt
+      left_of = left_at measure room begun.head made start
+
+      -- the whole answer
+      pub leads_whole : (more : List ChangeValue) (rest : List ℕ) → left_of ≡ Ok (more, rest) → answer_in measure room limits hand ≡ Ok (sent_of begun.head more, rest)
+      leads_whole more rest is = begun_here None none ∙ ap (λ (r : Result (List ChangeValue × List ℕ) Halt). r >>= sent_behind begun.head) is
+
+      -- no answer
+      pub leads_halted : (h : Halt) → left_of ≡ Err h → answer_in measure room limits hand ≡ Err h
+      leads_halted h is = begun_here None none ∙ ap (λ (r : Result (List ChangeValue × List ℕ) Halt). r >>= sent_behind begun.head) is
+
+      pub leads_stopped : (e : ReadError) (at : ℕ) (change : Option ℕ) → IfSome (fault_of e) (λ f. left_of ≡ Err (record { stop = record { fault = f; left = at }; change = change })) → Stopped e change at (answer_in measure room limits hand)
+      leads_stopped e at change stops = if_some (fault_of e) _ _ (λ f is. leads_halted (record { stop = record { fault = f; left = at }; change = change }) is) stops
+
+      module _ (r : ℕ) (first : List ℕ) (before more : List ChangeValue) (later : ℕ) (rest : List ℕ) (r_is : r ≡ room) (before_is : before ≡ made) (first_is : first ≡ start) where
+        abbrev Goes : Result Bool Halted → Type 0
+        Goes result = GoesOn measure r begun.head before first result more (allowed later rest) rest
+
+        abbrev GoesHere : Result Bool Halted → Type 0
+        GoesHere result = GoesOn measure room begun.head made start result more (allowed later rest) rest
+
+        goes_here : (result : Result Bool Halted) → Goes result → GoesHere result
+        goes_here result goes =
+            subst (λ (t : List ℕ). GoesOn measure room begun.head made t result more (allowed later rest) rest) first_is
+            (subst (λ (n : ℕ). GoesOn measure n begun.head made first result more (allowed later rest) rest) r_is
+            (subst (λ (cs : List ChangeValue). GoesOn measure r begun.head cs first result more (allowed later rest) rest) before_is goes))
+
+        -- all changes are there
+        pub goes_whole : (all : Bool) → all ≡ true → Goes (Ok all) → answer_in measure room limits hand ≡ Ok (sent_of begun.head more, rest)
+        goes_whole all is goes = leads_whole more rest (goes_here (Ok true) (subst (λ (b : Bool). Goes (Ok b)) is goes)).1
+
+        -- one is cut
+        pub goes_cut : (changes : Vec Change Global) (link : Option BegunLink) (after : List ℕ) (all : Bool) (n spent : ℕ) → IsBytes rest → map change_value changes.items ≡ more → all ≡ false → Goes (Ok all) → BeginsLink later rest (option_map part_of link) after → later ≡ room → n ≡ length hand - length after → spent ≡ spent_on (Some begun.head) more → spent ≤ most_work begun.head.width begun.head.height → Resumes measure limits bytes (Err (no_answers.Cut (Some (record { head = begun.head; changes = changes; spent = spent; link = link; taken = n }))))
+        goes_cut changes link after all n spent fits same is goes begins kept n_is spent_is borne =
+            let g = goes_here (Ok false) (subst (λ (b : Bool). Goes (Ok b)) is goes) in
+            let few : spent_on (Some begun.head) more ≤ most_work begun.head.width begun.head.height = rw (← spent_is) borne in
+            let b = begins_on measure room begun.head more rest fits g.1 few g.2 (option_map part_of link) after (subst (λ (k : ℕ). BeginsLink k rest (option_map part_of link) after) kept begins) in
+            let parts : start ≡ (g.0.front ++ b.front) ++ after = g.0.parts ∙ ap (λ (t : List ℕ). g.0.front ++ t) b.parts ∙ sym (append_assoc g.0.front b.front after) in
+            let stops = gone_halted measure room begun.head made start more rest g.2.stop g.0 g.1 g.2.is in
+            let begun_later : Begun = record { head = begun.head; changes = changes; spent = spent; link = link; taken = n } in (
+              is_unfinished (record { stop = g.2.stop; change = Some (length more) }) (leads_halted (record { stop = g.2.stop; change = Some (length more) }) stops) g.2.cut,
+              for_some (λ (b : Begun). LeadsOn measure limits b bytes) begun_later
+                  (leads_later None none changes link (g.0.front ++ b.front) after n spent parts n_is (spent_is ∙ ap (spent_on (Some begun.head)) (sym same)) borne b.keys
+                  (λ near later all.
+                  ap (λ (r : Result (List ChangeValue × List ℕ) Halt). r >>= sent_behind begun.head) (g.0.same near later all)
+                  ∙ b.same near later all
+                  ∙ ap (λ (cs : List ChangeValue). resumed_by measure later begun.head cs (option_map part_of link) (after ++ near)) (sym same))),
+              for_some (λ (b : Begun). HasReached measure limits b bytes) begun_later
+                  (reaches_later None none changes link (g.0.front ++ b.front) after n spent parts n_is (subst (λ (cs : List ChangeValue). ReachesBy measure room begun.head cs (option_map part_of link) after) (sym same) b.reached)),
+            )
+
+        -- it fails
+        pub goes_failed : (h : Halted) (n : ℕ) (result : WireError) → later ≡ room → Goes (Err h) → n ≡ length hand - length rest → result ≡ error_of h.error n h.change → Resumes measure limits bytes (Err (no_answers.Failed result))
+        goes_failed h n result kept goes n_is result_is =
+            let g = goes_here (Err h) goes in
+            resumes_failed h.error h.change rest later n result g.0 kept (leads_stopped h.error (allowed later rest) h.change g.1) n_is result_is

@@ -12,5 +12,6 @@ pub mod Answers
 pub mod Within
 pub mod Lent
 pub mod MoreBytes
+pub mod CutLinks
 pub mod Resuming
 pub mod Lengths

@@ -4,6 +4,7 @@ mod asks;
 mod attributes;
 mod begun;
 mod changes;
+mod cut_links;
 mod cuts;
 mod halted;
 mod heads;

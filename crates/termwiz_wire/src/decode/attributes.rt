@@ -3,6 +3,7 @@ ghost use Rattle.std.specs.Prelude.{◌≡◌, IfOk, true};
 ghost use Rattle.cbor.specs.Decoding.{Gives, allowed};
 ghost use Rattle.termwiz_cell.specs.AttributeChangeValue.{attribute_change_value};
 ghost use Rattle.termwiz_cell.specs.Link.{linked};
+ghost use Rattle.termwiz_wire.specs.CutLinks.{before_link_at, link_alone_at};
 ghost use Rattle.termwiz_wire.specs.Decoding.{are_small, attribute_change_at, attributes_at};
 ghost use Rattle.termwiz_wire.specs.Decoding.{split, styled};
 ghost use Rattle.termwiz_wire.specs.Encoding.{fields};
@@ -34,6 +35,26 @@ pub(super) fn attributes_of(
     let underline = color_of(reader)?;
     let link = optional_link_of(alloc, reader)?;
     let attrs = colored(alloc, number, foreground, background, underline, link)?;
+    Ok(attrs)
+}
+
+/// Decodes the attributes before a link.
+#[tactic(auto, unfolding(crate::specs::CutLinks::before_link_at))]
+pub(super) fn before_link_of(
+    alloc: Global,
+    reader: &mut Reader<'_>,
+) -> Result<CellAttributes, ReadError>
+    ensures value { Gives (allowed reader.new.room reader.new.bytes.now)
+        (λ x. (Some x, reader.new.bytes.now)) result
+        (before_link_at reader.old.room reader.old.bytes.now) }
+    ensures room { reader.new.room ≡ reader.old.room }
+{
+    reader.array_of(5)?;
+    let number = style_of(reader)?;
+    let foreground = color_of(reader)?;
+    let background = color_of(reader)?;
+    let underline = color_of(reader)?;
+    let attrs = colored(alloc, number, foreground, background, underline, None)?;
     Ok(attrs)
 }
 
@@ -97,4 +118,19 @@ pub(super) fn attribute_change_of(
         _ => return Err(ReadError::Type),
     };
     Ok(change)
+}
+
+/// Decodes the head of a change of one attribute that is a link.
+#[tactic(auto, unfolding(crate::specs::CutLinks::link_alone_at))]
+pub(super) fn link_alone_of(reader: &mut Reader<'_>) -> Result<(), ReadError>
+    ensures value { Gives (allowed reader.new.room reader.new.bytes.now)
+        (λ _. (None, reader.new.bytes.now)) result
+        (link_alone_at reader.old.room reader.old.bytes.now) }
+    ensures room { reader.new.room ≡ reader.old.room }
+{
+    reader.array_of(2)?;
+    match which_of(reader, 10)? {
+        9 => Ok(()),
+        _ => Err(ReadError::Type),
+    }
 }

@@ -1,20 +1,23 @@
 //! Answers whose bytes come in chunks.
 ghost use Rattle.std.specs.Option.{ForSome};
-ghost use Rattle.std.specs.Prelude.{◌≡◌, ◌++◌, ◌<◌, ◌≤◌, ◌^◌, IfOk, OnOk, Some, drop, length, map};
+ghost use Rattle.std.specs.Prelude.{◌≡◌, ◌++◌, ◌∷◌, ◌<◌, ◌≤◌, ◌^◌, [], IfOk, IfSome, List, None, OnOk};
+ghost use Rattle.std.specs.Prelude.{Some, drop, length, map, option_map, take, ℕ};
 ghost use Rattle.cbor.specs.Decoding.{IsBytes, allowed};
 ghost use Rattle.termwiz_cell.specs.ChangeValue.{change_value};
 ghost use Rattle.termwiz_cell.specs.Measure.{measure};
 ghost use Rattle.termwiz_surface.specs.Surface.{IsSurfaceSize};
 ghost use Rattle.termwiz_surface.specs.Unlogged.{lent_value};
 ghost use Rattle.termwiz_wire.specs.Answers.{sent_of};
+ghost use Rattle.termwiz_wire.specs.CutLinks.{IsLinkPart, link_change, part_of};
 ghost use Rattle.termwiz_wire.specs.Lent.{lent_answer};
-ghost use Rattle.termwiz_wire.specs.Resuming.{GoesOn, LeadsOn, Resumes};
+ghost use Rattle.termwiz_wire.specs.Resuming.{GoesOn, LeadsOn, Resumes, WithLink};
 ghost use Rattle.termwiz_wire.specs.Sent.{answer};
 ghost use Rattle.termwiz_wire.specs.Work.{most_work, spent_on};
 ghost use Rattle.termwiz_wire.specs.declared.decode.begun.NoAnswer.TheVariants.{Failed};
 ghost use Rattle.termwiz_wire.specs.declared.fault.WireError.TheVariants.{Memory};
 
 use super::changes::{next_of, owned};
+use super::cut_links::{BegunLink, begin_link, link_change, read_params};
 use super::halted::Halted;
 use super::heads::{Head, head_of};
 use crate::fault::{Limits, WireError};
@@ -25,15 +28,18 @@ use termwiz_cell::change::Change;
 use termwiz_cell::emoji::Widths;
 use termwiz_surface::LentChange;
 
-/// What was decoded of an answer whose bytes are not all there: what it has before its changes, and
-/// the first of them.
+/// What was decoded of an answer whose bytes are not all there: what it has before its changes, the
+/// first of them, and of a link that is cut the first of its params.
 #[derive(Debug, Drop)]
 pub struct Begun {
     head: Head,
     changes: Vec<Change>,
-    // How many bytes these take, and how much work these cost.
-    taken: usize,
+    // How much work these cost.
     spent: u128,
+    // What was decoded of the next one, if it is one of a link whose params have begun.
+    link: Option<BegunLink>,
+    // How many bytes all that takes.
+    taken: usize,
 }
 
 /// Why no answer was decoded.
@@ -47,8 +53,9 @@ pub enum NoAnswer {
 }
 
 /// Decodes the answer at the front of the bytes as `decode_answer` does, from where an earlier call
-/// left it, which had the first of these bytes. Each change is decoded once, and what is cut again.
-/// The answer borrows the texts that this call decodes.
+/// left it, which had the first of these bytes. Each change is decoded once, and what is cut again,
+/// but for a link: each of its params is decoded once. The answer borrows the texts that this call
+/// decodes.
 pub fn decode_more<'a, W: Widths>(
     alloc: Global,
     widths: &W,
@@ -96,10 +103,11 @@ fn begin<'a, W: Widths>(
             let begun = Begun {
                 head,
                 changes: Vec::new(alloc),
-                taken: len.saturating_sub(reader.bytes.len()),
                 spent: 0,
+                link: None,
+                taken: len.saturating_sub(reader.bytes.len()),
             };
-            resume(alloc, widths, limits, begun, bytes)
+            resume_changes(alloc, widths, limits, begun, bytes)
         }
         Err(error) => match error {
             ReadError::Truncated => Err(NoAnswer::Cut(None)),
@@ -131,12 +139,107 @@ fn resume<'a, W: Widths>(
     ensures named { IfOk result (λ x. 0 < x.0.source) }
     ensures sized { IfOk result (λ x. IsSurfaceSize x.0.width x.0.height) }
 {
+    let begun = with_link(alloc, limits, begun, bytes)?;
+    resume_changes(alloc, widths, limits, begun, bytes)
+}
+
+// Decodes the rest of the change that is begun, if one is.
+fn with_link(alloc: Global, limits: Limits, begun: Begun, bytes: &[u8]) -> Result<Begun, NoAnswer>
+    requires taken { begun.taken ≤ length (take limits.bytes bytes.now) }
+    requires link { IfSome (option_map part_of begun.link) IsLinkPart }
+    ensures { (measure : List ℕ → ℕ) → LeadsOn measure limits begun bytes.now →
+        WithLink measure limits bytes.now result }
+{
     let Begun {
         head,
         changes,
+        spent,
+        link,
         taken,
-        mut spent,
     } = begun;
+    let Some(mut link) = link else {
+        return Ok(Begun {
+            head,
+            changes,
+            spent,
+            link: None,
+            taken,
+        });
+    };
+    let mut reader = Reader::with_limit(bytes, limits.bytes);
+    let hand = reader.rest();
+    reader.bytes = &hand[taken..];
+    match read_params(alloc, &mut link, &mut reader) {
+        Ok(()) => {
+            let taken = hand.len().saturating_sub(reader.bytes.len());
+            Ok(Begun {
+                head,
+                changes: with_change(alloc, changes, link)?,
+                spent,
+                link: None,
+                taken,
+            })
+        }
+        Err(error) => match error {
+            ReadError::Truncated => Err(NoAnswer::Cut(Some(Begun {
+                head,
+                changes,
+                spent,
+                link: Some(link),
+                taken: hand.len().saturating_sub(reader.bytes.len()),
+            }))),
+            _ => {
+                let halted = Halted {
+                    error,
+                    change: Some(changes.len()),
+                };
+                let at = hand.len().saturating_sub(reader.bytes.len());
+                Err(NoAnswer::Failed(halted.located(at)))
+            }
+        },
+    }
+}
+
+// The changes with that of the link behind them.
+fn with_change(
+    alloc: Global,
+    changes: Vec<Change>,
+    link: BegunLink,
+) -> Result<Vec<Change>, AllocError>
+    ensures { IfOk result (λ x. map change_value x.items
+        ≡ map change_value changes.items ++ link_change (part_of link) (part_of link).params ∷ []) }
+{
+    let mut changes = changes;
+    changes.push(link_change(alloc, link)?)?;
+    Ok(changes)
+}
+
+// Decodes the changes that are left of what is begun.
+fn resume_changes<'a, W: Widths>(
+    alloc: Global,
+    widths: &W,
+    limits: Limits,
+    begun: Begun,
+    bytes: &'a [u8],
+) -> Result<(LentAnswer<'a>, usize), NoAnswer>
+    requires leads { LeadsOn (measure W.width_of widths.now) limits begun bytes.now }
+    requires whole { begun.link ≡ None }
+    ensures exact { Resumes (measure W.width_of widths.now) limits bytes.now result }
+    ensures found { IfOk result (λ x.
+        (bytes.now ≡ answer (measure W.width_of widths.now) (lent_answer x.0) ++ drop x.1 bytes.now)
+        × (x.1 ≤ length bytes.now)) }
+    ensures named { IfOk result (λ x. 0 < x.0.source) }
+    ensures sized { IfOk result (λ x. IsSurfaceSize x.0.width x.0.height) }
+{
+    let Begun {
+        head,
+        changes,
+        mut spent,
+        link,
+        taken,
+    } = begun;
+    // There is none.
+    drop(link);
     let mut reader = Reader::with_limit(bytes, limits.bytes);
     let hand = reader.rest();
     reader.bytes = &hand[taken..];
@@ -156,13 +259,15 @@ fn resume<'a, W: Widths>(
             Ok((lent_from(head, changes), taken))
         }
         Ok(false) => {
+            let link = begin_link(alloc, &mut reader)?;
             let taken = hand.len().saturating_sub(reader.bytes.len());
             let changes = owned_behind(alloc, changes, more)?;
             Err(NoAnswer::Cut(Some(Begun {
                 head,
                 changes,
-                taken,
                 spent,
+                link,
+                taken,
             })))
         }
         Err(halted) => {
@@ -195,6 +300,7 @@ fn go_on<'a, W: Widths>(
     ensures spent { OnOk result (spent.new ≡ spent_on (Some head)
         (map change_value begun.now ++ map lent_value changes.new.items)) }
     ensures few { OnOk result (spent.new ≤ most_work head.width head.height) }
+    ensures bytes { OnOk result (IsBytes reader.new.bytes.now) }
     ensures room { reader.new.room ≡ reader.old.room }
 {
     let first = begun.len();

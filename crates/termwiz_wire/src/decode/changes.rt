@@ -237,10 +237,10 @@ pub(super) fn change_of<'a, W: Widths>(
     values_of(alloc, rows, kind, reader)
 }
 
-// How many items a change has: two to four.
+/// Decodes how many items a change has: two to four.
 #[inline(always)]
 #[tactic(auto, unfolding(crate::specs::Decoding::count_at))]
-fn count_of(reader: &mut Reader<'_>) -> Result<usize, ReadError>
+pub(super) fn count_of(reader: &mut Reader<'_>) -> Result<usize, ReadError>
     ensures value { Gives (allowed reader.new.room reader.new.bytes.now)
         (λ x. (x, reader.new.bytes.now)) result
         (count_at reader.old.room reader.old.bytes.now) }
@@ -256,10 +256,10 @@ fn count_of(reader: &mut Reader<'_>) -> Result<usize, ReadError>
     }
 }
 
-// The kind of a change of so many items.
+/// Decodes the kind of a change of so many items.
 #[inline(always)]
 #[tactic(auto, unfolding(crate::specs::Decoding::change_kind_at))]
-fn kind_of(reader: &mut Reader<'_>, count: usize) -> Result<usize, ReadError>
+pub(super) fn kind_of(reader: &mut Reader<'_>, count: usize) -> Result<usize, ReadError>
     ensures value { Gives (allowed reader.new.room reader.new.bytes.now)
         (λ x. (x, reader.new.bytes.now)) result
         (change_kind_at reader.old.room count reader.old.bytes.now) }

@@ -5,6 +5,7 @@ ghost use Rattle.cbor.specs.Decoding.{Gives, allowed, text_at};
 ghost use Rattle.termwiz_cell.specs.Link.{linked, param_bytes};
 ghost use Rattle.termwiz_cell.specs.LinkPairs.{with_pair};
 ghost use Rattle.termwiz_wire.specs.Decoding.{ascends, key_at, link_at, optional_link_at, param_at};
+ghost use Rattle.termwiz_wire.specs.CutLinks.{param_key_at};
 ghost use Rattle.termwiz_wire.specs.Decoding.{params_at};
 
 use cbor::{Kind, ReadError, Reader};
@@ -96,7 +97,7 @@ fn params_of(
 }
 
 // A param whose key is above those that there are.
-#[tactic(auto, unfolding(crate::specs::Decoding::param_at))]
+#[tactic(auto, unfolding(crate::specs::Decoding::param_at, crate::specs::CutLinks::param_key_at))]
 fn param_of(
     alloc: Global,
     before: &BTreeMap<String, String>,
@@ -109,11 +110,30 @@ fn param_of(
         ascends (map param_bytes before.now.entries) (string_bytes x.0) ≡ true) }
     ensures room { reader.new.room ≡ reader.old.room }
 {
+    let key = param_key_of(alloc, before, reader)?;
+    let value = owned_of(alloc, reader)?;
+    Ok((key, value))
+}
+
+/// Decodes the head of a param, and its key, which is above those that there are.
+#[inline(always)]
+#[tactic(auto, unfolding(crate::specs::CutLinks::param_key_at))]
+pub(super) fn param_key_of(
+    alloc: Global,
+    before: &BTreeMap<String, String>,
+    reader: &mut Reader<'_>,
+) -> Result<String, ReadError>
+    ensures value { Gives (allowed reader.new.room reader.new.bytes.now)
+        (λ x. (string_bytes x, reader.new.bytes.now)) result
+        (param_key_at reader.old.room (map param_bytes before.now.entries) reader.old.bytes.now) }
+    ensures above { IfOk result (λ x.
+        ascends (map param_bytes before.now.entries) (string_bytes x) ≡ true) }
+    ensures room { reader.new.room ≡ reader.old.room }
+{
     reader.array_of(2)?;
     let key = key_of(before, reader)?;
     let key = String::from_str(alloc, key)?;
-    let value = owned_of(alloc, reader)?;
-    Ok((key, value))
+    Ok(key)
 }
 
 // A key that is above those that there are.
@@ -148,8 +168,13 @@ fn ascends(params: &BTreeMap<String, String>, key: &str) -> bool
     }
 }
 
+/// Puts a param among those that there are.
 #[tactic(auto, using(termwiz_cell::proofs::ParamLists::params_insert_entry))]
-fn put(params: &mut BTreeMap<String, String>, key: String, value: String) -> Result<(), AllocError>
+pub(super) fn put(
+    params: &mut BTreeMap<String, String>,
+    key: String,
+    value: String,
+) -> Result<(), AllocError>
     ensures { OnOk result (map param_bytes params.new.entries
         ≡ with_pair (map param_bytes params.old.entries) (string_bytes key, string_bytes value)) }
 {

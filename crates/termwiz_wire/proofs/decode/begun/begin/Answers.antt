@@ -4,7 +4,7 @@ use Rattle.cbor.specs.declared.error.FaultKind.TheVariants.{Truncated}
 use Rattle.cbor.specs.declared.error.ReadError.TheVariants as read_errors
 use Rattle.termwiz_cell.specs.Measure.{measure}
 use Rattle.termwiz_wire.specs.Answers.{Halt, head_at}
-use Rattle.termwiz_wire.specs.Resuming.{LeadsOn}
+use Rattle.termwiz_wire.specs.Resuming.{HasReached, LeadsOn}
 use Rattle.termwiz_wire.proofs.Resuming.{for_none, head_stopped, is_unfinished, leads_first, resumes_failed}
 use Rattle.termwiz_wire.proofs.Within.{lens_of}
 use Rattle.termwiz_wire.proofs.decode.begun.begin.Given.{Over}
@@ -21,9 +21,9 @@ stops g c =
     subst (λ (b : List ℕ). Stops at c.in-Err.error (head_at (c.args.limits.bytes - length c.args.bytes.now) c.args.limits b)) c.with_limit-reader.ensures.bytes
     (subst (λ (n : ℕ). Stops at c.in-Err.error (head_at n c.args.limits c.with_limit-reader.result.bytes.now)) c.with_limit-reader.ensures.room c.in-Err.ensures.value)
 
-pub resume-requires : goal.resume-requires
-resume-requires g c =
-    let hand = hand_is g (goal.at.resume-requires g c).After-head_of in
+pub resume_changes-requires-clause-leads : goal.resume_changes-requires-clause-leads
+resume_changes-requires-clause-leads g c =
+    let hand = hand_is g (goal.at.resume_changes-requires-clause-leads g c).After-head_of in
     let fits : IsBytes (take c.args.limits.bytes c.args.bytes.now) = subst (λ (b : List ℕ). IsBytes b) hand c.rest-len.ensures.bytes in
     leads_first (measure g.W.Widths.width_of c.args.widths.now) c.args.limits c.args.bytes.now c.in-Ok.head c.new.result c.head_of.new.reader.bytes.now c.saturating_sub.result c.in-Ok.ensures.width c.in-Ok.ensures.height c.in-Ok.ensures.numbers fits
     (rw (c.with_limit-reader.ensures.bytes, c.with_limit-reader.ensures.room) at c.in-Ok.ensures.value) c.new.ensures.items
@@ -35,7 +35,7 @@ returns-in-Truncated-clause-exact g c =
     let at : ℕ = allowed c.head_of.new.reader.room c.head_of.new.reader.bytes.now in
     let halts = head_stopped m c.args.limits c.args.bytes.now read_errors.Truncated at (rw c.in-Truncated.is at (stops g (goal.at.returns-in-Truncated-clause-exact g c).In-Err)) in
     let h : Halt = record { stop = record { fault = Truncated; left = at }; change = None } in
-    (is_unfinished m c.args.limits c.args.bytes.now h halts refl, for_none (λ b. LeadsOn m c.args.limits b c.args.bytes.now))
+    (is_unfinished m c.args.limits c.args.bytes.now h halts refl, for_none (λ b. LeadsOn m c.args.limits b c.args.bytes.now), for_none (λ b. HasReached m c.args.limits b c.args.bytes.now))
 
 pub returns-in_default-clause-exact : goal.returns-in_default-clause-exact
 returns-in_default-clause-exact g c =

@@ -1,5 +1,6 @@
 use Rattle.std.proofs.Common.{◌≡◌, ◌++◌, ◌+◌, ◌<◌, ◌≤◌, ◌∷◌, [], length, map, ℕ, List, Some, Ok, refl, sym, subst, ap, ◌∙◌, append_assoc, arith}
 use Rattle.std.proofs.lemmas.List.{map-append, length-map, length-append}
+use Rattle.cbor.specs.declared.error.FaultKind.TheVariants.{Truncated}
 use Rattle.cbor.specs.Decoding.{Stops, allowed}
 use Rattle.termwiz_cell.specs.ChangeValue.{ChangeValue, change_value}
 use Rattle.termwiz_cell.specs.Measure.{measure}
@@ -62,8 +63,7 @@ returns-in-Truncated-clause-goes g c =
     let at : ℕ = allowed c.next_of.new.reader.room c.next_of.new.reader.bytes.now in
     let lt : length more < c.args.head.count = omega (arith, lens, c.saturating_sub-count.ensures) in
     let stops : Stops at c.in-Err.error (next_at m c.args.reader.now.room (Some c.args.head) (spent_on (Some c.args.head) more) c.changes.reader.bytes.now) = subst (λ (k : ℕ). Stops at c.in-Err.error (next_at m c.args.reader.now.room (Some c.args.head) k c.changes.reader.bytes.now)) c.changes.invariant.spent (subst (λ (r : ℕ). Stops at c.in-Err.error (next_at m r (Some c.args.head) c.changes.spent c.changes.reader.bytes.now)) c.changes.invariant.room c.in-Err.ensures.value) in
-    let stopped = gone_stopped m c.args.reader.now.room c.args.head (map change_value c.args.begun.now ++ map lent_value c.args.changes.now.items) c.args.reader.now.bytes.now more c.changes.reader.bytes.now at c.in-Err.error c.changes.invariant.gone lt stops in
-    (c.changes.invariant.gone, _, rw c.in-Truncated.is at stopped, refl)
+    (c.changes.invariant.gone, lt, record { stop = record { fault = Truncated; left = at }; is = rw c.in-Truncated.is at stops; cut = refl })
 
 pub returns-in_default-clause-goes : goal.returns-in_default-clause-goes
 returns-in_default-clause-goes g c =

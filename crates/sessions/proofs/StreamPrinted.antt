@@ -1,10 +1,10 @@
 -- What is printed of a stream, as far as it has come.
-use Rattle.std.proofs.Common.{◌≡◌, ℕ, ◌+◌, ◌∙◌, Bool, true, false, List, [], ◌∷◌, ◌++◌, refl, sym, ap, subst, append-nil}
+use Rattle.std.proofs.Common.{◌≡◌, ℕ, ◌+◌, ◌∙◌, inl, inr, Bool, true, false, List, [], ◌∷◌, ◌++◌, refl, sym, ap, subst, append-nil}
 use Rattle.std.specs.Io.KnownBytes.{Appends}
 use Rattle.std.specs.List.{flat_map}
-use Rattle.std.specs.Prelude.{Option, None, Some, IfSome, Result, Ok, Err, if◌then◌else◌}
+use Rattle.std.specs.Prelude.{Option, None, Some, IfSome, OnOk, Result, Ok, Err, if◌then◌else◌}
 use Rattle.std.proofs.KnownBytes.{Appends-nil, Appends-trans}
-use Rattle.std.proofs.lemmas.Bool.{true≢false}
+use Rattle.std.proofs.lemmas.Bool.{cases_Bool, true≢false}
 use Rattle.std.proofs.lemmas.List.Concat.{flat_map-append}
 use Rattle.termwiz_share.specs.Client.{Shown, shown_by}
 use Rattle.termwiz_share.specs.declared.error.ClientError.{ClientError}
@@ -232,3 +232,15 @@ pub prints_refused : (o : WatchOptions) (known : Option Bytes) (error : SessionE
 prints_refused o known error result old more is =
     let P : Result (Unit {0}) WatchEnd → Type 0 = λ r. IfSome known (λ bytes. Prints o bytes r old more) in
     subst P (sym is) (if_known known (λ bytes. Unit {0}) (λ bytes k. tt))
+
+-- ---- nothing is reported where none is stale
+
+whole_fresh : (p : Printing) → whole p ≡ Ok tt → p.stale ≡ false
+whole_fresh p e = elim (cases_Bool p.stale) [
+  | inl stale ↦ absurd (let no : ◌≡◌ {A = Result (Unit {0}) WatchEnd} (Err Stale) (Ok tt) = rw stale at e in cc)
+  | inr fresh ↦ fresh
+]
+
+pub silent_whole : (p : Printing) (s : Shown) (old new : Option Bytes) (r : Result (Unit {0}) WatchEnd) (A : Type 0) → Finishes p s (whole p) old r new → (p.stale ≡ false → A) → OnOk r A
+silent_whole p s old new (Ok u) A f silent = silent (whole_fresh p (sym f.0))
+silent_whole p s old new (Err e) A f silent = tt

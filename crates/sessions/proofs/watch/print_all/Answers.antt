@@ -3,11 +3,12 @@ use Rattle.std.specs.Prelude.{Option, None, Some, OnOk, Result, Ok, Err}
 use Rattle.termwiz_share.specs.Client.{shown_by}
 use Rattle.termwiz_share.specs.declared.taken.Taken.{Taken}
 use Rattle.sessions.specs.Printing.{Finishes, Outputs}
+use Rattle.sessions.specs.declared.ending.SessionError.TheVariants.{Unreadable}
 use Rattle.sessions.specs.declared.watch.stream.StreamError.{StreamError}
 use Rattle.sessions.specs.declared.watch.WatchEnd.{WatchEnd}
 use Rattle.sessions.specs.declared.watch.WatchEnd.TheVariants.{Session}
 use Rattle.sessions.proofs.Coming.{Viewer}
-use Rattle.sessions.proofs.StreamPrinted.{end_printed, next_printed, prints_refused, so_far_first, whole_printed}
+use Rattle.sessions.proofs.StreamPrinted.{end_printed, next_printed, prints_refused, silent_whole, so_far_first, whole_printed}
 use Rattle.sessions.proofs.Watched.{Says}
 use Rattle.sessions.proofs.watch.print_all.Goals as goal
 
@@ -76,3 +77,17 @@ returns-in-Err-clause-prints g c =
     let out = g.O.Write.contents c.finish-in-Err.new.out in
     let ends = subst (λ (e : WatchEnd). Finishes at.printing (shown_by new) (Err e) mid.out c.finish-in-Err.result out) c.of.ensures c.finish-in-Err.ensures in
     end_printed c.args.options (g.R.Read.remaining c.args.input.now) at.count at.client new later after at.printing old mid at.invariant.limits at.invariant.so_far out error c.finish-in-Err.result says ends
+
+pub returns-in-Ok-None-clause-silent : goal.returns-in-Ok-None-clause-silent
+returns-in-Ok-None-clause-silent g c =
+    let at = c.loop-count in
+    let new = c.next_answer.new.client in
+    let mid = g.O.Write.contents at.out in
+    let out = g.O.Write.contents c.finish.new.out in
+    let ends = subst (λ (e : Result (Unit {0}) WatchEnd). Finishes at.printing (shown_by new) e mid c.finish.result out) c.whole.ensures c.finish.ensures in
+    silent_whole at.printing (shown_by new) mid out c.finish.result (at.err ≡ c.args.err.now) ends at.invariant.silent
+
+pub returns-clause-prints : goal.returns-clause-prints
+returns-clause-prints g c =
+    prints_refused c.args.options (g.R.Read.remaining c.args.input.now) Unreadable (Err (Session Unreadable)) (record { out = g.O.Write.contents c.args.out.now; err = g.E.Write.contents c.args.err.now })
+    (record { out = g.O.Write.contents c.loop-count.out; err = g.E.Write.contents c.loop-count.err }) refl

@@ -1,17 +1,24 @@
 -- Answers of a stream that are taken one at a time.
-use Rattle.std.proofs.Common.{◌≡◌, ◌⊎◌, inl, inr, ℕ, ◌+◌, ◌∙◌, false, true, List, [], ◌∷◌, ◌++◌, length, length-append, append_assoc, append-nil, refl, sym, ap, subst, arith}
+use Rattle.std.proofs.Common.{◌≡◌, ◌⊎◌, inl, inr, ℕ, suc, ◌+◌, ◌∙◌, false, true, List, [], ◌∷◌, ◌++◌, length, length-append, append_assoc, append-nil, refl, sym, ap, subst, arith}
 use Rattle.std.proofs.lemmas.Bool.{true≢false}
 use Rattle.std.specs.Prelude.{Bool, Option, Some, None, Ok, Err, if◌then◌else◌, is_some, not}
 use Rattle.termwiz_share.specs.Client.{ClientValue, Shown, fits, shown_by}
+use Rattle.termwiz_share.specs.Feeding.{TakesNext}
 use Rattle.termwiz_share.specs.Histories.{Follows, FollowsNext, Given, HasKept, HasStopped, HasTakenFirst, after, after_all}
 use Rattle.termwiz_share.specs.declared.error.ClientError.{ClientError}
 use Rattle.termwiz_share.specs.declared.error.ClientError.TheVariants as errors
 use Rattle.termwiz_share.specs.declared.taken.Taken.{Taken}
 use Rattle.termwiz_share.specs.declared.taken.Taken.TheVariants as outcomes
 use Rattle.termwiz_surface.specs.{FullScreen, full_of}
-use Rattle.uses.specs.Watching.{ShowsEach, StopsShowing, TakesSome, pictures, stale_in}
+use Rattle.uses.specs.Watching.{ShowsEach, StopsShowing, TakesInTurn, TakesSome, pictures, stale_in}
 
 -- ---- one answer more
+
+pub takes_more : {W : Type 0} (f : W → List ℕ → ℕ) (count : ℕ) (old mid new : ClientValue W) → TakesInTurn f count old mid → (o : Option Taken) (b : Bool) → is_some o ≡ not b → b ≡ false → TakesNext f mid (Ok o) new → TakesInTurn f (count + 1) old new
+takes_more f count old mid new so_far (Some t) b is some next =
+    let more : count + 1 ≡ suc count = omega arith in
+    subst (λ (n : ℕ). TakesInTurn f n old new) (sym more) (mid, so_far, t, next)
+takes_more f count old mid new so_far None b is some next = absurd (true≢false (sym (is ∙ ap not some)))
 
 after_more : (s : Shown) (given : List Given) (g : Given) → after_all s (given ++ g ∷ []) ≡ after (after_all s given) g
 after_more s [] g = refl

@@ -1,10 +1,29 @@
 -- A viewer of a stream that takes an answer at a time.
-use Rattle.std.specs.Prelude.{◌≡◌, ◌⊎◌, ℕ, ◌+◌, ◌<◌, List, [], ◌∷◌, ◌++◌, length, if◌then◌else◌}
+use Rattle.std.specs.Prelude.{◌≡◌, ◌⊎◌, ℕ, zero, suc, ◌+◌, ◌<◌, List, [], ◌∷◌, ◌++◌, length, Some, Ok, Err, if◌then◌else◌}
 use Rattle.termwiz_surface.specs.{FullScreen}
 use Rattle.termwiz_share.specs.Client.{ClientValue, Shown, fits, shown_by}
+use Rattle.termwiz_share.specs.Feeding.{TakesNext}
 use Rattle.termwiz_share.specs.Histories.{Follows, Given, HasMore, HasStopped, after, after_all}
 use Rattle.termwiz_share.specs.declared.error.ClientError.{ClientError}
 use Rattle.termwiz_share.specs.declared.error.ClientError.TheVariants.{Memory, Numbers}
+use Rattle.termwiz_share.specs.declared.taken.Taken.{Taken}
+
+-- so many answers are taken, one behind another
+abbrev pub TakesInTurn :
+    {W : Type 0} → (W → List ℕ → ℕ) → ℕ → ClientValue W → ClientValue W → Type 0
+TakesInTurn measure_of zero old new = new ≡ old
+TakesInTurn measure_of (suc count) old new =
+    (mid : ClientValue _) × TakesInTurn measure_of count old mid × (taken : Taken) ×
+    TakesNext measure_of mid (Ok (Some taken)) new
+
+-- the client takes fewer answers than most, and fails to take the next one
+pub record FailsAfterSome {W : Type 0} (measure_of : W → List ℕ → ℕ) (most : ℕ)
+    (old : ClientValue W) (error : ClientError) (new : ClientValue W) : Type 0 where
+  pub count : ℕ
+  pub mid : ClientValue W
+  pub few : count < most
+  pub takes : TakesInTurn measure_of count old mid
+  pub fails : TakesNext measure_of mid (Err error) new
 
 -- what the answers that fit were given for
 abbrev pub pictures : Shown → List Given → List FullScreen

@@ -3,8 +3,8 @@
 ghost use Rattle.std.specs.Prelude.{◌≡◌, ◌∷◌, ◌++◌, ◌≤◌, [], IfErr, IfOk, List, OnErr, OnOk};
 ghost use Rattle.std.specs.Prelude.{map, ℕ};
 ghost use Rattle.termwiz_share.specs.{Follows, Given};
-ghost use Rattle.uses.specs.{FullScreen as Picture, ShowsEach, StopsShowing, TakesSome, full_of};
-ghost use Rattle.uses.specs.{full_value, measure};
+ghost use Rattle.uses.specs.{FailsAfterSome, FullScreen as Picture, ShowsEach, StopsShowing};
+ghost use Rattle.uses.specs.{TakesSome, full_of, full_value, measure};
 
 use std::alloc::AllocError;
 use termwiz_share::{Client, ClientError, Taken};
@@ -57,7 +57,8 @@ fn add_screen<W: Widths>(
 }
 
 /// Takes at most this many answers of the bytes that a client keeps, and returns how many it took.
-/// They are fewer only where no other one is whole.
+/// They are fewer only where no other one is whole. After an error the client is as
+/// `Client::take_answer` leaves it, and shows the answers before that.
 pub fn take_some<W: Widths>(client: &mut Client<W>, most: usize) -> Result<usize, ClientError>
     ensures most { IfOk result (λ count. count ≤ most) }
     // Of a stream that the client follows it shows what the last of them that fits was given for,
@@ -65,6 +66,9 @@ pub fn take_some<W: Widths>(client: &mut Client<W>, most: usize) -> Result<usize
     ensures follows { (histories : ℕ → ℕ → Picture) (sent : List Given) (future : List ℕ) →
         Follows (measure W.width_of) histories sent client.old future → IfOk result (λ count.
         TakesSome (measure W.width_of) histories sent future most client.old count client.new) }
+    // It fails as the call that takes one answer does, behind some that it took.
+    ensures fails { IfErr result (λ error.
+        FailsAfterSome (measure W.width_of) most client.old error client.new) }
 {
     for count in 0..most {
         if client.take_answer()?.is_none() {

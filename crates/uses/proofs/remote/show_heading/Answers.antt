@@ -1,5 +1,8 @@
-use Rattle.std.proofs.Common.{◌≡◌, get_or, sym, ap, ◌∙◌, subst}
-use Rattle.termwiz_surface.specs.{DoubleWidthLine, FullScreen, Kept, SingleWidthLine, kept_of, measure, replay, replay_kept, screen_of}
+use Rattle.std.proofs.Common.{◌≡◌, List, get_or, map, sym, ap, ◌∙◌, rules, subst}
+use Rattle.std.specs.Prelude.{Ok}
+use Rattle.termwiz_surface.specs.{ChangeValue, DoubleWidthLine, FullScreen, Kept, SingleWidthLine, change_value, kept_of, measure, replay, replay_kept, screen_of}
+use Rattle.uses.specs.Following.{FollowsOnce}
+use Rattle.uses.specs.Making.{AddsList}
 use Rattle.uses.proofs.HeadingRow.{row_is_wide}
 use Rattle.uses.proofs.remote.show_heading.Goals as goal
 
@@ -29,3 +32,10 @@ returns-clause-wide g c =
 
 pub returns-clause-follows : goal.returns-clause-follows
 returns-clause-follows g c = c.follow.ensures.follows (c.in_ok-add_changes.ensures.followed c.args.remote.now c.requires.follows)
+
+pub returns-clause-either : goal.returns-clause-either
+returns-clause-either g c =
+    let changes : List ChangeValue = map change_value c.in_ok-changes.changes.items in
+    let added : AddsList (measure g.W.Widths.width_of c.args.session.now.widths) c.args.session.now changes (Ok tt) c.add_changes.new.self = search rules in
+    let followed : FollowsOnce (measure g.W.Widths.width_of) c.add_changes.new.self c.args.remote.now (Ok tt) c.follow.new.self = search rules in
+    (subst (λ (cs : List ChangeValue). AddsList (measure g.W.Widths.width_of c.args.session.now.widths) c.args.session.now cs (Ok tt) c.add_changes.new.self) c.in_ok-changes.ensures added, followed)

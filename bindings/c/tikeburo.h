@@ -70,7 +70,7 @@ enum {
     TK_WRONG_KIND = 7,   /* a handle has another kind of value than a call takes */
     TK_RANGE = 8,        /* a row, a column, a size or another number is outside of its range */
     TK_SHORT = 9,        /* the buffer is too short: *len is the length that is needed */
-    TK_OTHER_WIDTHS = 10 /* two handles measure texts by different widths (tk_widths) */
+    TK_OTHER_WIDTHS = 10 /* what two handles have was measured by different widths (tk_widths) */
 };
 
 /* What a status says, in English, with no full stop. The text is never NULL, and stays as it is. */
@@ -97,7 +97,7 @@ static inline const char *tk_strerror(tk_status status) {
     case TK_SHORT:
         return "the buffer is too short";
     case TK_OTHER_WIDTHS:
-        return "the two handles measure texts by different widths";
+        return "what the two handles have was measured by different widths";
     default:
         return "unknown status";
     }
@@ -667,8 +667,8 @@ tk_status tk_draw_line_distinct(tk_handle *surface, size_t row, tk_handle *lines
 
 /* Draws a line of a list on a row: the row shows what the line does, cut or with default blanks
  * behind it. Where there is no such row, nothing is drawn. Cursor and pen are as before. It is
- * logged as a list of changes. Where the surface measures a grapheme of the line in another way
- * than the surface that it came from, that may be cut or go on in the next row. TK_RANGE: index. */
+ * logged as a list of changes. TK_RANGE: index. TK_OTHER_WIDTHS: a cell of the line has another
+ * width than the surface measures for its text; nothing is drawn. */
 static inline tk_status tk_draw_line(tk_handle *surface, size_t row, tk_handle *lines,
                                      size_t index) {
     return surface == lines ? TK_NO_HANDLE : tk_draw_line_distinct(surface, row, lines, index);
@@ -703,7 +703,7 @@ tk_status tk_add_unlogged_scrolling_distinct(tk_handle *surface, const tk_change
 /* Makes a list of changes, as tk_add_changes does, and moves the rows that they scroll off the top
  * of the surface to the end of the lines, the first one first. A text scrolls rows off, and a
  * scroll up of a region that begins with row 0. After an error no line is added, except that after
- * TK_MEMORY lines of some of these rows may have been. */
+ * TK_MEMORY the first of these rows may have been. */
 static inline tk_status tk_add_changes_scrolling(tk_handle *surface, const tk_change *changes,
                                                  size_t count, const char *texts, size_t len,
                                                  tk_handle *lines) {

@@ -237,6 +237,11 @@ static void test_narrow_source(void) {
     CHECK(tk_draw(&viewer, &surface, 0, 0) == TK_WRONG_KIND);
     CHECK(tk_draw(&none, &narrow, 0, 0) == TK_NO_HANDLE);
     CHECK(tk_draw(&surface, &lines, 0, 0) == TK_WRONG_KIND);
+    CHECK(tk_lines_push_row(&lines, &narrow, 0) == TK_DONE);
+    CHECK(tk_lines_push_row(&lines, &surface, 1) == TK_DONE);
+    CHECK(tk_draw_line(&surface, 0, &lines, 0) == TK_OTHER_WIDTHS);
+    CHECK(screen_is(&surface, "ab\ncd\n"));
+    CHECK(tk_draw_line(&narrow, 0, &lines, 1) == TK_DONE && screen_is(&narrow, "cd\n"));
     CHECK(tk_follow(&narrow, &surface) == TK_WRONG_KIND);
     tk_free(&surface);
     tk_free(&narrow);

@@ -22,7 +22,7 @@ pub enum Error {
     Numbers,
     /// A row, a column, a size, a limit or the number of a variant is outside of its range.
     Range,
-    /// The two screens that a call takes measure texts by different [`Widths`](crate::Widths).
+    /// What a call takes was measured by different [`Widths`](crate::Widths).
     OtherWidths,
     /// The library returned a number that this crate has no name for.
     Unknown(i32),
@@ -57,7 +57,7 @@ impl fmt::Display for Error {
             Error::Range => {
                 f.write_str("a row, a column, a size or a limit is outside of its range")
             }
-            Error::OtherWidths => f.write_str("the two screens measure texts differently"),
+            Error::OtherWidths => f.write_str("what was given was measured by different widths"),
             Error::Unknown(status) => write!(f, "unknown status {status}"),
         }
     }

@@ -347,13 +347,11 @@ impl Surface {
     /// there is no such row, nothing is drawn. Cursor and pen are as before. Returns the number of
     /// the last change that this takes, as [`Surface::add_changes`] does.
     ///
-    /// Where this surface measures a text in another way than the one that the line comes from,
-    /// that may be cut, or go on in the next row.
-    ///
     /// # Errors
     ///
-    /// [`Error::Range`]: there is no line at this index. [`Error::Numbers`] and [`Error::Memory`],
-    /// as of [`Surface::add_change`].
+    /// [`Error::Range`]: there is no line at this index. [`Error::OtherWidths`]: a cell of the line
+    /// has another width than this surface measures for its text; nothing is drawn.
+    /// [`Error::Numbers`] and [`Error::Memory`], as of [`Surface::add_change`].
     pub fn draw_line(
         &mut self,
         row: usize,

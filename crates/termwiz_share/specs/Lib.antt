@@ -19,7 +19,8 @@ pub use Rattle.termwiz_surface.specs.History.{KeepsNames}
 pub use Rattle.termwiz_surface.specs.Resizing.{Resizes}
 pub use Rattle.termwiz_surface.specs.RowNumbers.{NumbersRows}
 pub use Rattle.termwiz_surface.specs.ScrolledOff.{AddsScrolledOff, rows_scrolled_off}
-pub use Rattle.termwiz_surface.specs.Surface.{IsSurfaceSize, SurfaceValue, blank_surface, screen_of}
+pub use Rattle.termwiz_surface.specs.Scrollback.{spare_lines}
+pub use Rattle.termwiz_surface.specs.Surface.{IsSurfaceSize, SurfaceValue, blank_surface, kept_of, screen_of}
 pub use Rattle.termwiz_surface.specs.declared.surface.SurfaceError.TheVariants.{ScrollRegion}
 pub use Rattle.termwiz_wire.specs.Answers.{answer_at}
 pub use Rattle.termwiz_wire.specs.Lent.{lent_answer}

@@ -1,6 +1,6 @@
 //! Sources: full surfaces whose answers name them.
-ghost use Rattle.std.specs.Prelude.{◌≡◌, ◌≢◌, ◌+◌, ◌-◌, ◌<◌, ◌^◌, ◌∷◌, ◌++◌, [], Err, IfOk, List};
-ghost use Rattle.std.specs.Prelude.{OnErr, OnOk, ℕ, min, vec_len};
+ghost use Rattle.std.specs.Prelude.{◌≡◌, ◌≢◌, ◌+◌, ◌-◌, ◌<◌, ◌≤◌, ◌^◌, ◌∷◌, ◌++◌, [], Err, IfOk};
+ghost use Rattle.std.specs.Prelude.{List, OnErr, OnOk, ℕ, min, vec_len};
 ghost use Rattle.termwiz_share.specs.{Adds, AddsScrolledOff, AddsUnlogged, Answers, ClientValue};
 ghost use Rattle.termwiz_share.specs.{HasCopied, HasDrawn, IsCopied, IsDrawn, IsRegionDrawn};
 ghost use Rattle.termwiz_share.specs.{IsResponse};
@@ -10,7 +10,8 @@ ghost use Rattle.termwiz_share.specs.{Resizes, Responds, ScrollRegion, Serves, S
 ghost use Rattle.termwiz_share.specs.{blank_surface, flushed, lent_value};
 ghost use Rattle.termwiz_share.specs.{change_value, copied_region, length, map, measure};
 ghost use Rattle.termwiz_share.specs.{most_bytes, next_number, response_bytes};
-ghost use Rattle.termwiz_share.specs.{rows_scrolled_off, screen_of, trimmed, true, with_log};
+ghost use Rattle.termwiz_share.specs.{kept_of, rows_scrolled_off, screen_of, spare_lines, trimmed};
+ghost use Rattle.termwiz_share.specs.{true, with_log};
 
 use std::alloc::{AllocError, Global};
 use std::marker::Model;
@@ -133,11 +134,14 @@ impl<W: Widths> Source<W> {
             (trimmed self.old.surface) (map change_value changes.items)
             (next_number (trimmed self.old.surface).log - 1 + vec_len changes)
             result self.new.surface }
-        // The lines that scroll off are added, and the old ones stay, even after an error.
+        // The lines that scroll off are added, as they were shown. The old ones stay, even after an
+        // error.
         ensures scrolled { AddsScrolledOff self.old.surface.width
             (rows_scrolled_off (measure W.width_of self.old.surface.widths)
-            (screen_of self.old.surface) (map change_value changes.items))
+            (screen_of self.old.surface) (kept_of self.old.surface)
+            (map change_value changes.items))
             result scrollback.old.lines.items scrollback.new.lines.items }
+        ensures spare { spare_lines scrollback.new ≤ spare_lines scrollback.old }
         ensures number { self.new.number ≡ self.old.number }
         ensures serves { KeepsClients (measure W.width_of) self.old self.new }
         // What each number named it names still, even after an error.
@@ -203,11 +207,13 @@ impl<W: Widths> Source<W> {
             self.old.surface (map lent_value changes.now)
             (next_number self.old.surface.log - 1 + length changes.now)
             result self.new.surface }
-        // The lines that scroll off are added, and the old ones stay, even after an error.
+        // The lines that scroll off are added, as they were shown. The old ones stay, even after an
+        // error.
         ensures scrolled { AddsScrolledOff self.old.surface.width
             (rows_scrolled_off (measure W.width_of self.old.surface.widths)
-            (screen_of self.old.surface) (map lent_value changes.now))
+            (screen_of self.old.surface) (kept_of self.old.surface) (map lent_value changes.now))
             result scrollback.old.lines.items scrollback.new.lines.items }
+        ensures spare { spare_lines scrollback.new ≤ spare_lines scrollback.old }
         ensures number { self.new.number ≡ self.old.number }
         ensures serves { KeepsClients (measure W.width_of) self.old self.new }
         // What each number named it names still, even after an error.

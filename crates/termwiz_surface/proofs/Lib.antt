@@ -14,6 +14,7 @@ mod Forgetting
 mod Unlogged
 mod Applying
 mod ScrolledOff
+mod Measuring
 mod Viewing
 mod Accepting
 mod FollowedRuns

@@ -1,11 +1,11 @@
 -- Rows that scroll off, and the lines that then hold them.
-use Rattle.std.proofs.Common.{◌≡◌, ℕ, suc, ◌+◌, ◌-◌, ◌<◌, ◌≤◌, true, false, inl, inr, min, List, [], ◌∷◌, ◌++◌, length, get_or, map, drop, take, set, replicate, fold, refl, sym, ◌∙◌, ap, ap₂, subst, arith, append_assoc, append-nil, drop-set-lt, length-append, length-drop}
+use Rattle.std.proofs.Common.{◌≡◌, ℕ, zero, suc, ◌+◌, ◌-◌, ◌<◌, ◌≤◌, true, false, inl, inr, min, List, [], ◌∷◌, ◌++◌, length, get_or, map, drop, take, set, replicate, fold, refl, sym, ◌∙◌, ap, ap₂, subst, arith, append_assoc, append-nil, drop-set-lt, length-append, length-drop}
 use Rattle.std.specs.List.{All, concat}
 use Rattle.std.specs.Str.{IsUtf8}
 use Rattle.std.specs.Prelude.{◌==◌, ◌||◌, nat_le, nat_lt, Result, Ok, Err, OnErr}
 use Rattle.std.specs.Result.{is_err}
 use Rattle.std.proofs.lemmas.Bool.{cases_Bool, cases_eq, true≢false, and_parts, ne_eqb, eq-eqb, le-leb, lt-leb, or_left, or_right}
-use Rattle.std.proofs.lemmas.List.{map-append, length-set, get_or-set_same, get_or-set_other, get_or-append_right, get_or-drop, map-set, length-map, take_more, length-replicate, drop_at, drop-drop, drop-take, at_drop_more}
+use Rattle.std.proofs.lemmas.List.{map-append, length-set, get_or-set_same, get_or-set_other, get_or-append_right, get_or-drop, get_or-map, map-set, length-map, length-replicate, drop_at, drop-drop, drop-take, at_drop_more}
 use Rattle.unicode_segmentation.specs.Grapheme.{graphemes}
 use Rattle.unicode_segmentation.proofs.SegmentsLemmas.{concat-segments}
 use Rattle.termwiz_cell.specs.Attributes.{Attributes}
@@ -15,7 +15,7 @@ use Rattle.termwiz_line.specs.LineFlags.{LineFlags, no_flags}
 use Rattle.termwiz_line.specs.LineValue.{LineValue}
 use Rattle.termwiz_line.specs.Row.{row_of}
 use Rattle.termwiz_screen.specs.Kept.{Kept}
-use Rattle.termwiz_screen.specs.Print.{has_below, wraps, wrapped, wrapped_kept, down, down_kept, returned, scrolled, put_at_cursor, put_kept, columns_left, printed_cell, piece_of, print_piece, print_one, piece_kept, kept_after}
+use Rattle.termwiz_screen.specs.Print.{has_below, wraps, wrapped, wrapped_kept, down, down_kept, returned, scrolled, put_at_cursor, put_kept, columns_left, printed_cell, piece_of, print_piece, print_one, one_kept, piece_kept, kept_after}
 use Rattle.termwiz_screen.specs.Rows.{ArePartlyReset}
 use Rattle.termwiz_screen.specs.Screen.{Screen, row_at}
 use Rattle.termwiz_screen.specs.ScreenValue.{cells_of}
@@ -25,9 +25,11 @@ use Rattle.termwiz_screen.specs.ScrollRegions.{region_up}
 use Rattle.termwiz_screen.proofs.Regions.{blank_step}
 use Rattle.termwiz_screen.proofs.Runs.{PrintsCell}
 use Rattle.termwiz_cell.specs.ChangeValue.{ChangeValue}
+use Rattle.termwiz_screen.specs.Sides.{row_flags}
+use Rattle.termwiz_screen.proofs.Lines.{row-read}
 use Rattle.termwiz_screen.specs.Step.{step, step_kept, replay, replay_kept, region_fits, regions_fit}
 use Rattle.termwiz_surface.specs.Printing.{PrintsFirst}
-use Rattle.termwiz_surface.specs.ScrolledOff.{KeepsLines, LeavesRows, ScrollsOff, first_leaves, left_behind_first, left_by, left_one, left_step, moves_down, rows_scrolled_off, top_leaves, topped}
+use Rattle.termwiz_surface.specs.ScrolledOff.{BeginsRows, LeavesRows, ScrollsOff, ShownRow, first_leaves, first_rows, left_behind_first, left_by, left_one, left_step, line_shown, moves_down, row_shown, rows_scrolled_off, top_leaves, topped}
 use Rattle.termwiz_surface.specs.Surface.{SurfaceValue, IsSound, SameFrame, Becomes, screen_of, kept_of, lengths_of}
 use Rattle.termwiz_line.proofs.StoredRows.{row_blank}
 use Rattle.termwiz_screen.proofs.Stored.{IsLawful}
@@ -39,128 +41,135 @@ use Rattle.termwiz_surface.proofs.RowNumbers.{MarksSome, marks-alike, marks-then
 
 -- ---- lists of lines
 
-pub keeps-same : (old : List LineValue) → KeepsLines old old
-keeps-same old = ([], sym (append-nil old))
-
 behind-both : (u v x a b : List LineValue) → v ≡ u ++ a → x ≡ v ++ b → x ≡ u ++ (a ++ b)
 behind-both u v x a b first second = second ∙ ap (λ (t : List LineValue). t ++ b) first ∙ append_assoc u a b
 
-pub keeps-then : (u v x : List LineValue) → KeepsLines u v → KeepsLines v x → KeepsLines u x
-keeps-then u v x first second = (first.0 ++ second.0, behind-both u v x first.0 second.0 first.1 second.1)
-
 module _ (w : ℕ) where
-  rows-both : (a b : List LineValue) → map (row_of w) (cells_of (a ++ b)) ≡ map (row_of w) (cells_of a) ++ map (row_of w) (cells_of b)
-  rows-both a b = ap (map (row_of w)) (map-append (λ (l : LineValue). l.cells) a b) ∙ map-append (row_of w) (cells_of a) (cells_of b)
-
-  pub off-none : (v : List LineValue) → ScrollsOff w [] v v
-  off-none v = record { lines = []; behind = sym (append-nil v); rows_are = refl }
-
-  pub off-then : (p q : List (List CellValue)) (u v x : List LineValue) → ScrollsOff w p u v → ScrollsOff w q v x → ScrollsOff w (p ++ q) u x
-  off-then p q u v x first second = record {
-    lines = first.lines ++ second.lines;
-    behind = behind-both u v x first.lines second.lines first.behind second.behind;
-    rows_are = rows-both first.lines second.lines ∙ ap₂ (λ (a b : List (List CellValue)). a ++ b) first.rows_are second.rows_are;
-  }
-
-  pub keeps-off : (p : List (List CellValue)) (u v : List LineValue) → ScrollsOff w p u v → KeepsLines u v
-  keeps-off p u v off = (off.lines, off.behind)
-
-  pub leaves-all : (p : List (List CellValue)) (v : List LineValue) → LeavesRows w p p v v
+  pub leaves-all : (p : List ShownRow) (v : List LineValue) → LeavesRows w p p v v
   leaves-all p v = record { lines = []; behind = sym (append-nil v); rows_are = refl }
 
-  pub leaves-off : (p q all : List (List CellValue)) (u v : List LineValue) → all ≡ p ++ q → ScrollsOff w p u v → LeavesRows w all q u v
-  leaves-off p q all u v e off = record {
-    lines = off.lines;
-    behind = off.behind;
-    rows_are = e ∙ ap (λ (t : List (List CellValue)). t ++ q) (sym off.rows_are);
-  }
-
-  pub leaves-then : (p q r : List (List CellValue)) (u v x : List LineValue) → LeavesRows w p q u v → LeavesRows w q r v x → LeavesRows w p r u x
+  pub leaves-then : (p q r : List ShownRow) (u v x : List LineValue) → LeavesRows w p q u v → LeavesRows w q r v x → LeavesRows w p r u x
   leaves-then p q r u v x first second =
-      let a : List (List CellValue) = map (row_of w) (cells_of first.lines) in
-      let b : List (List CellValue) = map (row_of w) (cells_of second.lines) in
+      let a : List ShownRow = map (line_shown w) first.lines in
+      let b : List ShownRow = map (line_shown w) second.lines in
       record {
         lines = first.lines ++ second.lines;
         behind = behind-both u v x first.lines second.lines first.behind second.behind;
-        rows_are = first.rows_are ∙ ap (λ (t : List (List CellValue)). a ++ t) second.rows_are ∙ sym (append_assoc a b r) ∙ ap (λ (t : List (List CellValue)). t ++ r) (sym (rows-both first.lines second.lines));
+        rows_are = first.rows_are ∙ ap (λ (t : List ShownRow). a ++ t) second.rows_are ∙ sym (append_assoc a b r) ∙ ap (λ (t : List ShownRow). t ++ r) (sym (map-append (line_shown w) first.lines second.lines));
       }
 
-  pub keeps-leaves : (p q : List (List CellValue)) (u v : List LineValue) → LeavesRows w p q u v → KeepsLines u v
-  keeps-leaves p q u v leaves = (leaves.lines, leaves.behind)
-
-  -- nothing is left
-  pub off-leaves : (p q : List (List CellValue)) (u v : List LineValue) → q ≡ [] → LeavesRows w p q u v → ScrollsOff w p u v
-  off-leaves p q u v e leaves = record {
+  -- others may be left behind
+  leaves-before : (p q r : List ShownRow) (u v : List LineValue) → LeavesRows w p q u v → LeavesRows w (p ++ r) (q ++ r) u v
+  leaves-before p q r u v leaves = record {
     lines = leaves.lines;
     behind = leaves.behind;
-    rows_are = sym (leaves.rows_are ∙ ap (λ (t : List (List CellValue)). map (row_of w) (cells_of leaves.lines) ++ t) e ∙ append-nil (map (row_of w) (cells_of leaves.lines)));
+    rows_are = ap (λ (t : List ShownRow). t ++ r) leaves.rows_are ∙ append_assoc (map (line_shown w) leaves.lines) q r;
   }
+
+  pub leaves-off : (p q all : List ShownRow) (u v : List LineValue) → all ≡ p ++ q → ScrollsOff w p u v → LeavesRows w all q u v
+  leaves-off p q all u v e off = subst (λ (t : List ShownRow). LeavesRows w t q u v) (sym e) (leaves-before p [] q u v off)
+
+  pub off-none : (v : List LineValue) → ScrollsOff w [] v v
+  off-none v = leaves-all [] v
+
+  pub off-then : (p q : List ShownRow) (u v x : List LineValue) → ScrollsOff w p u v → ScrollsOff w q v x → ScrollsOff w (p ++ q) u x
+  off-then p q u v x first second = leaves-then (p ++ q) q [] u v x (leaves-before p [] q u v first) second
+
+  -- nothing is left
+  pub off-leaves : (p q : List ShownRow) (u v : List LineValue) → q ≡ [] → LeavesRows w p q u v → ScrollsOff w p u v
+  off-leaves p q u v e leaves = subst (λ (t : List ShownRow). LeavesRows w p t u v) e leaves
+
+  -- ---- the first rows, where memory was refused
+
+  pub begins-none : (p : List ShownRow) (v : List LineValue) → BeginsRows w p v v
+  begins-none p v = (p, leaves-all p v)
+
+  pub begins-eq : (p : List ShownRow) (u v : List LineValue) → v ≡ u → BeginsRows w p u v
+  begins-eq p u v e = subst (BeginsRows w p u) (sym e) (begins-none p u)
+
+  pub begins-leaves : (p q : List ShownRow) (u v : List LineValue) → LeavesRows w p q u v → BeginsRows w p u v
+  begins-leaves p q u v leaves = (q, leaves)
+
+  -- some were added, and then the first of those that were left
+  pub begins-then : (p q : List ShownRow) (u v x : List LineValue) → LeavesRows w p q u v → BeginsRows w q v x → BeginsRows w p u x
+  begins-then p q u v x first second = (second.0, leaves-then p q second.0 u v x first second.1)
+
+  -- the first of these are the first of those that begin with them
+  pub begins-before : (p q all : List ShownRow) (u v : List LineValue) → all ≡ p ++ q → BeginsRows w p u v → BeginsRows w all u v
+  begins-before p q all u v e begins = (
+    begins.0 ++ q,
+    subst (λ (t : List ShownRow). LeavesRows w t (begins.0 ++ q) u v) (sym e) (leaves-before p begins.0 q u v begins.1),
+  )
 
 -- ---- which graphemes scroll
 
 module _ (f : List ℕ → ℕ) where
-  left_by-append : (s : Screen) (gs hs : List (List ℕ)) → left_by f s (gs ++ hs) ≡ left_by f s gs ++ left_by f (fold (print_one f) s gs) hs
-  left_by-append s [] hs = refl
-  left_by-append s (g ∷ gs) hs =
-      ap (λ (t : List (List CellValue)). left_one f s g ++ t) (left_by-append (print_one f s g) gs hs)
-      ∙ sym (append_assoc (left_one f s g) (left_by f (print_one f s g) gs) (left_by f (fold (print_one f) (print_one f s g) gs) hs))
+  left_by-append : (s : Screen) (k : Kept) (gs hs : List (List ℕ)) → left_by f s k (gs ++ hs) ≡ left_by f s k gs ++ left_by f (fold (print_one f) s gs) (kept_after f s k gs) hs
+  left_by-append s k [] hs = refl
+  left_by-append s k (g ∷ gs) hs =
+      let t : Screen = print_one f s g in
+      let m : Kept = one_kept f s g k in
+      ap (λ (r : List ShownRow). left_one f s k g ++ r) (left_by-append t m gs hs)
+      ∙ sym (append_assoc (left_one f s k g) (left_by f t m gs) (left_by f (fold (print_one f) t gs) (kept_after f t m gs) hs))
 
   -- a cell that does not wrap
-  left_one-stays : (s : Screen) (g : List ℕ) (c : CellValue) → piece_of f s.pen g ≡ Cell c → wraps s ≡ false → left_one f s g ≡ []
-  left_one-stays s g c is_text stays = elim (cases_Bool (has_below s)) [
+  left_one-stays : (s : Screen) (k : Kept) (g : List ℕ) (c : CellValue) → piece_of f s.pen g ≡ Cell c → wraps s ≡ false → left_one f s k g ≡ []
+  left_one-stays s k g c is_text stays = elim (cases_Bool (has_below s)) [
     | inl below ↦ rw (is_text, below) refl
     | inr last ↦ rw (is_text, last, stays) refl
   ]
 
   -- one grapheme, and those behind it
-  pub behind-one : (s t : Screen) (g : List ℕ) (gs hs : List (List ℕ)) → gs ≡ g ∷ hs → t ≡ print_one f s g → left_behind_first f s gs ≡ left_by f t hs
-  behind-one s t g gs hs e is = ap (left_behind_first f s) e ∙ ap (λ (z : Screen). left_by f z hs) (sym is)
+  pub behind-one : (s t : Screen) (k m : Kept) (g : List ℕ) (gs hs : List (List ℕ)) → gs ≡ g ∷ hs → t ≡ print_one f s g → m ≡ one_kept f s g k → left_behind_first f s k gs ≡ left_by f t m hs
+  behind-one s t k m g gs hs e is kept = ap (left_behind_first f s k) e ∙ ap₂ (λ (z : Screen) (n : Kept). left_by f z n hs) (sym is) (sym kept)
 
   module _ (piece : ℕ → List ℕ) (cell : ℕ → Attributes → CellValue) (store : ℕ → List ℕ → Attributes → List CellValue → List CellValue) (taken : List ℕ → ℕ) (run : IsRun cell store taken) where
     -- characters that fit in the row scroll nothing
-    run-stays : (bs : List ℕ) (s : Screen) → s.x + taken bs ≤ s.width → All (λ b. PrintsCell f s.pen (piece b) (cell b s.pen)) bs → left_by f s (map piece bs) ≡ []
-    run-stays [] s fits prints = refl
-    run-stays (b ∷ bs) s fits prints =
+    run-stays : (bs : List ℕ) (s : Screen) (k : Kept) → s.x + taken bs ≤ s.width → All (λ b. PrintsCell f s.pen (piece b) (cell b s.pen)) bs → left_by f s k (map piece bs) ≡ []
+    run-stays [] s k fits prints = refl
+    run-stays (b ∷ bs) s k fits prints =
         let first : PrintsCell f s.pen (piece b) (cell b s.pen) = prints 0 0 (omega arith) in
         let some : 0 < columns (cell b s.pen) = (columns_bounds (cell b s.pen)).0 in
         let stays : wraps s ≡ false = ne_eqb s.x s.width (omega (arith, run.more_taken b bs s.pen)) in
         let placed : print_one f s (piece b) ≡ put_at_cursor s (printed_cell f s.pen (piece b)) = rw (first.is_text, stays) refl in
         let one : print_one f s (piece b) ≡ put_at_cursor s (cell b s.pen) = placed ∙ ap (put_at_cursor s) first.cell_is in
-        let none : left_one f s (piece b) ≡ [] = left_one-stays s (piece b) (printed_cell f s.pen (piece b)) first.is_text stays in
-        ap₂ (λ (u v : List (List CellValue)). u ++ v) none
-        (ap (λ (z : Screen). left_by f z (map piece bs)) one
-        ∙ run-stays bs (put_at_cursor s (cell b s.pen)) (omega (arith, run.more_taken b bs s.pen)) (λ k d l. prints (suc k) d (omega arith)))
+        let none : left_one f s k (piece b) ≡ [] = left_one-stays s k (piece b) (printed_cell f s.pen (piece b)) first.is_text stays in
+        let m : Kept = one_kept f s (piece b) k in
+        ap₂ (λ (u v : List ShownRow). u ++ v) none
+        (ap (λ (z : Screen). left_by f z m (map piece bs)) one
+        ∙ run-stays bs (put_at_cursor s (cell b s.pen)) m (omega (arith, run.more_taken b bs s.pen)) (λ j d l. prints (suc j) d (omega arith)))
 
     -- nor do those behind the first one that is put here
-    put-stays : (b : ℕ) (bs : List ℕ) (s : Screen) → s.x + taken (b ∷ bs) ≤ s.width → All (λ b. PrintsCell f s.pen (piece b) (cell b s.pen)) (b ∷ bs) → left_by f (put_at_cursor s (cell b s.pen)) (map piece bs) ≡ []
-    put-stays b bs s fits prints = run-stays bs (put_at_cursor s (cell b s.pen)) (omega (arith, run.more_taken b bs s.pen)) (λ k d l. prints (suc k) d (omega arith))
+    put-stays : (b : ℕ) (bs : List ℕ) (s : Screen) (k : Kept) → s.x + taken (b ∷ bs) ≤ s.width → All (λ b. PrintsCell f s.pen (piece b) (cell b s.pen)) (b ∷ bs) → left_by f (put_at_cursor s (cell b s.pen)) k (map piece bs) ≡ []
+    put-stays b bs s k fits prints = run-stays bs (put_at_cursor s (cell b s.pen)) k (omega (arith, run.more_taken b bs s.pen)) (λ j d l. prints (suc j) d (omega arith))
 
     -- nor those behind one that may wrap first
-    rest-stays : (b : ℕ) (bs : List ℕ) (s : Screen) → taken (b ∷ bs) ≤ columns_left s → All (λ b. PrintsCell f s.pen (piece b) (cell b s.pen)) (b ∷ bs) → left_by f (print_one f s (piece b)) (map piece bs) ≡ []
-    rest-stays b bs s fits prints =
+    rest-stays : (b : ℕ) (bs : List ℕ) (s : Screen) (k : Kept) → taken (b ∷ bs) ≤ columns_left s → All (λ b. PrintsCell f s.pen (piece b) (cell b s.pen)) (b ∷ bs) → left_by f (print_one f s (piece b)) k (map piece bs) ≡ []
+    rest-stays b bs s k fits prints =
         let first : PrintsCell f s.pen (piece b) (cell b s.pen) = prints 0 0 (omega arith) in
         let some : 0 < columns (cell b s.pen) = (columns_bounds (cell b s.pen)).0 in
         elim (cases_Bool (wraps s)) [
           | inl w ↦
               let room : taken (b ∷ bs) ≤ s.width = rw w at fits in
               let placed : print_one f s (piece b) ≡ put_at_cursor (returned (down s)) (printed_cell f s.pen (piece b)) = rw (first.is_text, w) refl in
-              ap (λ (z : Screen). left_by f z (map piece bs)) (placed ∙ ap (put_at_cursor (returned (down s))) first.cell_is)
-              ∙ put-stays b bs (returned (down s)) (omega arith) prints
+              ap (λ (z : Screen). left_by f z k (map piece bs)) (placed ∙ ap (put_at_cursor (returned (down s))) first.cell_is)
+              ∙ put-stays b bs (returned (down s)) k (omega arith) prints
           | inr n ↦
               let room : taken (b ∷ bs) ≤ s.width - s.x = rw n at fits in
               let placed : print_one f s (piece b) ≡ put_at_cursor s (printed_cell f s.pen (piece b)) = rw (first.is_text, n) refl in
-              ap (λ (z : Screen). left_by f z (map piece bs)) (placed ∙ ap (put_at_cursor s) first.cell_is)
-              ∙ put-stays b bs s (omega (arith, run.more_taken b bs s.pen)) prints
+              ap (λ (z : Screen). left_by f z k (map piece bs)) (placed ∙ ap (put_at_cursor s) first.cell_is)
+              ∙ put-stays b bs s k (omega (arith, run.more_taken b bs s.pen)) prints
         ]
 
     -- a run of them, and what is behind it
-    pub behind-run : (bs : List ℕ) (s t : Screen) (gs hs : List (List ℕ)) → 0 < length bs → taken bs ≤ columns_left s → All (λ b. PrintsCell f s.pen (piece b) (cell b s.pen)) bs → gs ≡ map piece bs ++ hs → t ≡ fold (print_one f) s (map piece bs) → left_behind_first f s gs ≡ left_by f t hs
-    behind-run [] s t gs hs some fits prints e is = absurd (omega arith)
-    behind-run (b ∷ bs) s t gs hs some fits prints e is =
-        ap (left_behind_first f s) e
-        ∙ left_by-append (print_one f s (piece b)) (map piece bs) hs
-        ∙ ap (λ (u : List (List CellValue)). u ++ left_by f (fold (print_one f) (print_one f s (piece b)) (map piece bs)) hs) (rest-stays b bs s fits prints)
-        ∙ ap (λ (z : Screen). left_by f z hs) (sym is)
+    pub behind-run : (bs : List ℕ) (s t : Screen) (k m : Kept) (gs hs : List (List ℕ)) → 0 < length bs → taken bs ≤ columns_left s → All (λ b. PrintsCell f s.pen (piece b) (cell b s.pen)) bs → gs ≡ map piece bs ++ hs → t ≡ fold (print_one f) s (map piece bs) → m ≡ kept_after f s k (map piece bs) → left_behind_first f s k gs ≡ left_by f t m hs
+    behind-run [] s t k m gs hs some fits prints e is kept = absurd (omega arith)
+    behind-run (b ∷ bs) s t k m gs hs some fits prints e is kept =
+        let n : Kept = one_kept f s (piece b) k in
+        ap (left_behind_first f s k) e
+        ∙ left_by-append (print_one f s (piece b)) n (map piece bs) hs
+        ∙ ap (λ (u : List ShownRow). u ++ left_by f (fold (print_one f) (print_one f s (piece b)) (map piece bs)) (kept_after f (print_one f s (piece b)) n (map piece bs)) hs) (rest-stays b bs s n fits prints)
+        ∙ ap₂ (λ (z : Screen) (q : Kept). left_by f z q hs) (sym is) (sym kept)
 
 -- a grapheme that begins with no control character is a cell
 cell-first : (f : List ℕ → ℕ) (pen : Attributes) (text g : List ℕ) (hs : List (List ℕ)) → 32 ≤ get_or text 0 0 → concat (g ∷ hs) ≡ text → piece_of f pen g ≡ Cell (printed_cell f pen g)
@@ -246,23 +255,29 @@ touched-blanked f s g gs j h =
     ∙ sym (or_right (j == 0) (touched_by f (blanked s) (g ∷ gs) j)
     (or_left (one_touches f (blanked s) g j) (touched_by f (print_one f (blanked s) g) gs j) (top-touches (blanked s) (piece_of f s.pen g) j h)))
 
-module _ (f : List ℕ → ℕ) (s : Screen) where
-  left-top : (gs : List (List ℕ)) → first_leaves f s gs ≡ true → left_by f s gs ≡ row_at s.rows 0 ∷ left_behind_first f (blanked s) gs
+module _ (f : List ℕ → ℕ) (s : Screen) (k : Kept) where
+  left-top : (gs : List (List ℕ)) → first_leaves f s gs ≡ true → left_by f s k gs ≡ first_rows s k 1 ++ left_behind_first f (blanked s) (blanked_kept s k) gs
   left-top [] h = absurd (true≢false (sym h))
   left-top (g ∷ gs) h =
-      let one : left_one f s g ≡ row_at s.rows 0 ∷ [] = rw h refl in
-      ap₂ (λ (u v : List (List CellValue)). u ++ v) one (ap (λ (z : Screen). left_by f z gs) (sym (piece-blanked s (piece_of f s.pen g) h)))
+      let one : left_one f s k g ≡ first_rows s k 1 = rw h refl in
+      let p : Piece = piece_of f s.pen g in
+      ap₂ (λ (u v : List ShownRow). u ++ v) one (ap₂ (λ (z : Screen) (m : Kept). left_by f z m gs) (sym (piece-blanked s p h)) (sym (piece_kept-blanked s k p h)))
 
-  left-stays : (gs : List (List ℕ)) → first_leaves f s gs ≡ false → left_by f s gs ≡ left_behind_first f s gs
+  left-stays : (gs : List (List ℕ)) → first_leaves f s gs ≡ false → left_by f s k gs ≡ left_behind_first f s k gs
   left-stays [] h = refl
-  left-stays (g ∷ gs) h = let one : left_one f s g ≡ [] = rw h refl in ap (λ (u : List (List CellValue)). u ++ left_by f (print_one f s g) gs) one
+  left-stays (g ∷ gs) h = let one : left_one f s k g ≡ [] = rw h refl in ap (λ (u : List ShownRow). u ++ left_by f (print_one f s g) (one_kept f s g k) gs) one
 
-  -- the top row was taken before the first grapheme, or it stays
-  pub leaves-top : (t : Screen) (gs hs : List (List ℕ)) (u v : List LineValue) → first_leaves f s gs ≡ true → left_behind_first f (blanked s) gs ≡ left_by f t hs → ScrollsOff s.width (row_at s.rows 0 ∷ []) u v → LeavesRows s.width (left_by f s gs) (left_by f t hs) u v
-  leaves-top t gs hs u v h e off = leaves-off s.width (row_at s.rows 0 ∷ []) (left_by f t hs) (left_by f s gs) u v (left-top gs h ∙ ap (λ (r : List (List CellValue)). row_at s.rows 0 ∷ r) e) off
+  -- the top row was taken before the first grapheme
+  pub leaves-top : (t : Screen) (m : Kept) (gs hs : List (List ℕ)) (u v : List LineValue) → first_leaves f s gs ≡ true → left_behind_first f (blanked s) (blanked_kept s k) gs ≡ left_by f t m hs → ScrollsOff s.width (first_rows s k 1) u v → LeavesRows s.width (left_by f s k gs) (left_by f t m hs) u v
+  leaves-top t m gs hs u v h e off = leaves-off s.width (first_rows s k 1) (left_by f t m hs) (left_by f s k gs) u v (left-top gs h ∙ ap (λ (r : List ShownRow). first_rows s k 1 ++ r) e) off
 
-  pub leaves-none : (t : Screen) (gs hs : List (List ℕ)) (v : List LineValue) → first_leaves f s gs ≡ false → left_behind_first f s gs ≡ left_by f t hs → LeavesRows s.width (left_by f s gs) (left_by f t hs) v v
-  leaves-none t gs hs v h e = leaves-off s.width [] (left_by f t hs) (left_by f s gs) v v (left-stays gs h ∙ e) (off-none s.width v)
+  -- and then memory was refused
+  pub begins-top : (gs : List (List ℕ)) (u v : List LineValue) → first_leaves f s gs ≡ true → BeginsRows s.width (first_rows s k 1) u v → BeginsRows s.width (left_by f s k gs) u v
+  begins-top gs u v h begins = begins-before s.width (first_rows s k 1) (left_behind_first f (blanked s) (blanked_kept s k) gs) (left_by f s k gs) u v (left-top gs h) begins
+
+  -- it stays
+  pub leaves-none : (t : Screen) (m : Kept) (gs hs : List (List ℕ)) (v : List LineValue) → first_leaves f s gs ≡ false → left_behind_first f s k gs ≡ left_by f t m hs → LeavesRows s.width (left_by f s k gs) (left_by f t m hs) v v
+  leaves-none t m gs hs v h e = leaves-off s.width [] (left_by f t m hs) (left_by f s k gs) v v (left-stays gs h ∙ e) (off-none s.width v)
 
 -- what is printed over a blank row 0 is printed over the old one
 module _ {W : Type 0} (f : List ℕ → ℕ) (old mid new : SurfaceValue W) (text rest : List ℕ) (is_text : IsUtf8 text)
@@ -394,13 +409,40 @@ module _ {W : Type 0} (f : List ℕ → ℕ) (r s t : SurfaceValue W) (n : ℕ) 
             ∙ (λ i. record (kept_of r) { lengths = lengths i; flags = flags i });
       }
 
-  pub taken-lines : (u v x : List LineValue) → ScrollsOff r.width (take n (screen_of r).rows) u v → ScrollsOff s.width (row_at (screen_of s).rows n ∷ []) v x → ScrollsOff r.width (take (n + 1) (screen_of r).rows) u x
+  pub taken-lines : (u v x : List LineValue) → ScrollsOff r.width (first_rows (screen_of r) (kept_of r) n) u v → ScrollsOff s.width (row_shown (screen_of s) (kept_of s) n ∷ []) v x → ScrollsOff r.width (first_rows (screen_of r) (kept_of r) (n + 1)) u x
   taken-lines u v x first second =
-      let same : row_at (screen_of s).rows n ≡ row_at (screen_of r).rows n = ap (λ (ls : List (List CellValue)). row_at ls n) rows_s ∙ topped-at (replicate r.width blank) [] (screen_of r).rows n in
-      let row : ScrollsOff r.width (row_at (screen_of r).rows n ∷ []) v x =
-      subst (λ (w : ℕ). ScrollsOff w (row_at (screen_of r).rows n ∷ []) v x) a.width (subst (λ (q : List CellValue). ScrollsOff s.width (q ∷ []) v x) same second) in
-      subst (λ (p : List (List CellValue)). ScrollsOff r.width p u x) (sym (take_more (screen_of r).rows n [] (below-topped (replicate r.width blank) (screen_of r).rows n within)))
-      (off-then r.width (take n (screen_of r).rows) (row_at (screen_of r).rows n ∷ []) u v x first row)
+      let cells : row_at (screen_of s).rows n ≡ row_at (screen_of r).rows n = ap (λ (ls : List (List CellValue)). row_at ls n) rows_s ∙ topped-at (replicate r.width blank) [] (screen_of r).rows n in
+      let flags : get_or s.flags n no_flags ≡ get_or r.flags n no_flags = ap (λ (k : Kept). get_or k.flags n no_flags) a.kept_is ∙ topped-at no_flags no_flags r.flags n in
+      let same : row_shown (screen_of s) (kept_of s) n ≡ row_shown (screen_of r) (kept_of r) n = λ i. record { cells = cells i; flags = flags i } in
+      let row : ScrollsOff r.width (row_shown (screen_of r) (kept_of r) n ∷ []) v x =
+      subst (λ (w : ℕ). ScrollsOff w (row_shown (screen_of r) (kept_of r) n ∷ []) v x) a.width (subst (λ (q : ShownRow). ScrollsOff s.width (q ∷ []) v x) same second) in
+      let more : n + 1 ≡ suc n = omega arith in
+      subst (λ (m : ℕ). ScrollsOff r.width (first_rows (screen_of r) (kept_of r) m) u x) (sym more)
+      (off-then r.width (first_rows (screen_of r) (kept_of r) n) (row_shown (screen_of r) (kept_of r) n ∷ []) u v x first row)
+
+-- the first rows begin with fewer of them
+first_rows-parts : (s : Screen) (k : Kept) (n d : ℕ) → (rest : List ShownRow) × (first_rows s k (n + d) ≡ first_rows s k n ++ rest)
+first_rows-parts s k n zero = ([], ap (first_rows s k) (let e : n + 0 ≡ n = omega arith in e) ∙ sym (append-nil (first_rows s k n)))
+first_rows-parts s k n (suc d) =
+    let before = first_rows-parts s k n d in
+    let more : n + suc d ≡ suc (n + d) = omega arith in (
+      before.0 ++ row_shown s k (n + d) ∷ [],
+      ap (first_rows s k) more ∙ ap (λ (t : List ShownRow). t ++ row_shown s k (n + d) ∷ []) before.1 ∙ append_assoc (first_rows s k n) before.0 (row_shown s k (n + d) ∷ []),
+    )
+
+-- the row that a line shows
+pub shown-read : (w : ℕ) (ls : List LineValue) (i : ℕ) (l : LineValue) → i < length ls → l ≡ get_or ls i l → record { cells = row_at (map (row_of w) (cells_of ls)) i; flags = get_or (row_flags ls) i no_flags } ≡ line_shown w l
+shown-read w ls i l inside e =
+    let cells = row-read w ls i l inside e in
+    let flags : get_or (row_flags ls) i no_flags ≡ l.flags = get_or-map (λ (v : LineValue). v.flags) ls i l no_flags inside ∙ ap (λ (v : LineValue). v.flags) (sym e) in
+    λ i. record { cells = cells i; flags = flags i }
+
+-- some of the first rows were taken
+pub begins-first : (w : ℕ) (s : Screen) (k : Kept) (n m : ℕ) (u v : List LineValue) → n ≤ m → ScrollsOff w (first_rows s k n) u v → BeginsRows w (first_rows s k m) u v
+begins-first w s k n m u v l off =
+    let parts = first_rows-parts s k n (m - n) in
+    let all : n + (m - n) ≡ m = omega arith in
+    begins-leaves w (first_rows s k m) parts.0 u v (leaves-off w (first_rows s k n) parts.0 (first_rows s k m) u v (sym (ap (first_rows s k) all) ∙ parts.1) off)
 
 -- the rows that a scroll of a region from row 0 on drops may be taken before
 module _ {W : Type 0} (r s t : SurfaceValue W) (n k m : ℕ) (e : m ≡ min k n) where
@@ -427,9 +469,6 @@ module _ {W : Type 0} (r s t : SurfaceValue W) (n k m : ℕ) (e : m ≡ min k n)
             ∙ (λ i. record (kept_of r) { lengths = lengths i; flags = flags i });
       }
 
-pub keeps-eq : (u v : List LineValue) → v ≡ u → KeepsLines u v
-keeps-eq u v e = subst (KeepsLines u) (sym e) (keeps-same u)
-
 -- the column is past the last one exactly where a wrap is pending
 pub wrap-test : (x w : ℕ) → x ≤ w → nat_le w x ≡ (x == w)
 wrap-test x w within = elim (cases_eq x w) [
@@ -447,7 +486,7 @@ pub record AppliesPart {W : Type 0} (f : List ℕ → ℕ) (r : SurfaceValue W) 
   pub rows : MarksSome (touched f (screen_of r) all) (touched f (screen_of s) left) r s
   pub screen : replay f (screen_of s) left ≡ replay f (screen_of r) all
   pub kept : replay_kept f (screen_of s) (kept_of s) left ≡ replay_kept f (screen_of r) (kept_of r) all
-  pub leaves : LeavesRows r.width (rows_scrolled_off f (screen_of r) all) (rows_scrolled_off f (screen_of s) left) u v
+  pub leaves : LeavesRows r.width (rows_scrolled_off f (screen_of r) (kept_of r) all) (rows_scrolled_off f (screen_of s) (kept_of s) left) u v
 
 module _ {W : Type 0} (f : List ℕ → ℕ) (r : SurfaceValue W) (all : List ChangeValue) (u : List LineValue) where
   pub part-none : regions_fit r.height all ≡ true → AppliesPart f r all all u r u
@@ -458,7 +497,7 @@ module _ {W : Type 0} (f : List ℕ → ℕ) (r : SurfaceValue W) (all : List Ch
     rows = some-none (touched f (screen_of r) all) r;
     screen = refl;
     kept = refl;
-    leaves = leaves-all r.width (rows_scrolled_off f (screen_of r) all) u;
+    leaves = leaves-all r.width (rows_scrolled_off f (screen_of r) (kept_of r) all) u;
   }
 
   pub part-all : (s : SurfaceValue W) (v : List LineValue) → AppliesPart f r all [] u s v → Becomes r (replay f (screen_of r) all) (replay_kept f (screen_of r) (kept_of r) all) (touched f (screen_of r) all) s
@@ -474,17 +513,20 @@ module _ {W : Type 0} (f : List ℕ → ℕ) (r : SurfaceValue W) (all : List Ch
     kept_is = p.kept;
   }
 
-  pub part-off : (s : SurfaceValue W) (v : List LineValue) → AppliesPart f r all [] u s v → ScrollsOff r.width (rows_scrolled_off f (screen_of r) all) u v
-  part-off s v p = off-leaves r.width (rows_scrolled_off f (screen_of r) all) [] u v refl p.leaves
+  pub part-off : (s : SurfaceValue W) (v : List LineValue) → AppliesPart f r all [] u s v → ScrollsOff r.width (rows_scrolled_off f (screen_of r) (kept_of r) all) u v
+  part-off s v p = off-leaves r.width (rows_scrolled_off f (screen_of r) (kept_of r) all) [] u v refl p.leaves
 
   module _ (c : ChangeValue) (left : List ChangeValue) (s : SurfaceValue W) (v : List LineValue) (p : AppliesPart f r all (c ∷ left) u s v) where
     pub part-fits : region_fits s.height c ≡ true
     part-fits = ap (λ (h : ℕ). region_fits h c) p.frame.height ∙ (and_parts (region_fits r.height c) (regions_fit r.height left) p.fit).0
 
-    pub part-more : (t : SurfaceValue W) (x : List LineValue) → Becomes s (step f (screen_of s) c) (step_kept f (screen_of s) (kept_of s) c) (touches f (screen_of s) c) t → ScrollsOff s.width (left_step f (screen_of s) c) v x → AppliesPart f r all left u t x
+    -- what the change scrolls off, and what those behind it do
+    rows_left : (t : SurfaceValue W) → Becomes s (step f (screen_of s) c) (step_kept f (screen_of s) (kept_of s) c) (touches f (screen_of s) c) t → rows_scrolled_off f (screen_of s) (kept_of s) (c ∷ left) ≡ left_step f (screen_of s) (kept_of s) c ++ rows_scrolled_off f (screen_of t) (kept_of t) left
+    rows_left t b = ap₂ (λ (z : Screen) (k : Kept). left_step f (screen_of s) (kept_of s) c ++ rows_scrolled_off f z k left) (sym b.screen_is) (sym b.kept_is)
+
+    pub part-more : (t : SurfaceValue W) (x : List LineValue) → Becomes s (step f (screen_of s) c) (step_kept f (screen_of s) (kept_of s) c) (touches f (screen_of s) c) t → ScrollsOff s.width (left_step f (screen_of s) (kept_of s) c) v x → AppliesPart f r all left u t x
     part-more t x b off =
-        let more : ScrollsOff r.width (left_step f (screen_of s) c) v x = subst (λ (w : ℕ). ScrollsOff w (left_step f (screen_of s) c) v x) p.frame.width off in
-        let rest : rows_scrolled_off f (screen_of s) (c ∷ left) ≡ left_step f (screen_of s) c ++ rows_scrolled_off f (screen_of t) left = ap (λ (z : Screen). left_step f (screen_of s) c ++ rows_scrolled_off f z left) (sym b.screen_is) in
+        let more : ScrollsOff r.width (left_step f (screen_of s) (kept_of s) c) v x = subst (λ (w : ℕ). ScrollsOff w (left_step f (screen_of s) (kept_of s) c) v x) p.frame.width off in
         record {
           fit = (and_parts (region_fits r.height c) (regions_fit r.height left) p.fit).1;
           frame = record {
@@ -499,9 +541,16 @@ module _ {W : Type 0} (f : List ℕ → ℕ) (r : SurfaceValue W) (all : List Ch
               (λ j. ap (λ (z : Screen). touches f (screen_of s) c j || touched f z left j) (sym b.screen_is)) p.rows b.rows;
           screen = ap (λ (z : Screen). replay f z left) b.screen_is ∙ p.screen;
           kept = ap₂ (λ (z : Screen) (k : Kept). replay_kept f z k left) b.screen_is b.kept_is ∙ p.kept;
-          leaves = leaves-then r.width (rows_scrolled_off f (screen_of r) all) (rows_scrolled_off f (screen_of s) (c ∷ left)) (rows_scrolled_off f (screen_of t) left) u v x p.leaves
-              (leaves-off r.width (left_step f (screen_of s) c) (rows_scrolled_off f (screen_of t) left) (rows_scrolled_off f (screen_of s) (c ∷ left)) v x rest more);
+          leaves = leaves-then r.width (rows_scrolled_off f (screen_of r) (kept_of r) all) (rows_scrolled_off f (screen_of s) (kept_of s) (c ∷ left)) (rows_scrolled_off f (screen_of t) (kept_of t) left) u v x p.leaves
+              (leaves-off r.width (left_step f (screen_of s) (kept_of s) c) (rows_scrolled_off f (screen_of t) (kept_of t) left) (rows_scrolled_off f (screen_of s) (kept_of s) (c ∷ left)) v x (rows_left t b) more);
         }
+
+    -- memory was refused within the change
+    pub part-begins : (x : List LineValue) → BeginsRows s.width (left_step f (screen_of s) (kept_of s) c) v x → BeginsRows r.width (rows_scrolled_off f (screen_of r) (kept_of r) all) u x
+    part-begins x begins =
+        let own : BeginsRows r.width (left_step f (screen_of s) (kept_of s) c) v x = subst (λ (w : ℕ). BeginsRows w (left_step f (screen_of s) (kept_of s) c) v x) p.frame.width begins in
+        begins-then r.width (rows_scrolled_off f (screen_of r) (kept_of r) all) (rows_scrolled_off f (screen_of s) (kept_of s) (c ∷ left)) u v x p.leaves
+        (begins-before r.width (left_step f (screen_of s) (kept_of s) c) (rows_scrolled_off f (step f (screen_of s) c) (step_kept f (screen_of s) (kept_of s) c) left) (rows_scrolled_off f (screen_of s) (kept_of s) (c ∷ left)) v x refl own)
 
 -- the next one of the changes that are left
 pub mapped-next : {X : Type 0} (f : X → ChangeValue) (xs : List X) (i : ℕ) (x : X) → i < length xs → x ≡ get_or xs i x → map f (drop i xs) ≡ f x ∷ map f (drop (i + 1) xs)

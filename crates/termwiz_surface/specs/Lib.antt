@@ -1,9 +1,11 @@
 pub mod Touching
 pub mod Surface
 pub mod RowNumbers
+pub mod Measuring
 pub mod Printing
 pub mod Adding
 pub mod Unlogged
+pub mod Scrollback
 pub mod ScrolledOff
 pub mod Resizing
 pub mod Following
@@ -56,7 +58,9 @@ pub use Rattle.termwiz_surface.specs.RowNumbers.{HasStayed, NumbersRows, Numbers
 pub use Rattle.termwiz_surface.specs.Touching.{touched, touches, touched_by, one_touches, piece_touches, scroll_touches, wrap_touches, down_touches, cursor_row, every_row, no_row}
 pub use Rattle.termwiz_surface.specs.Adding.{Adds, Makes, with_log, marking}
 pub use Rattle.termwiz_surface.specs.Unlogged.{AddsUnlogged, MakesUnlogged, lent_value}
-pub use Rattle.termwiz_surface.specs.ScrolledOff.{AddsScrolledOff, ScrollsOff, KeepsLines, rows_scrolled_off, left_step, left_by, left_one, left_piece}
+pub use Rattle.termwiz_surface.specs.Measuring.{AreMeasured}
+pub use Rattle.termwiz_surface.specs.Scrollback.{spare_lines}
+pub use Rattle.termwiz_surface.specs.ScrolledOff.{AddsScrolledOff, BeginsRows, ScrollsOff, ShownRow, first_rows, left_by, left_one, left_piece, left_region, left_step, line_shown, row_shown, rows_scrolled_off}
 pub use Rattle.termwiz_surface.specs.Resizing.{HasResized, Resizes}
 pub use Rattle.termwiz_surface.specs.Copies.{IsDrawn, IsCopied, IsRegionDrawn, drawn_region, copied_region}
 pub use Rattle.termwiz_surface.specs.Following.{ViewerValue, Follows, FollowsTo, KeepsViewers, Leads, FullLeads, blank_viewer, blank_viewer_from}

@@ -1,7 +1,7 @@
 //! Lines outside of a screen.
-ghost use Rattle.std.specs.Prelude.{◌≡◌, IfOk, [], drop, length, replicate};
+ghost use Rattle.std.specs.Prelude.{◌≡◌, ◌+◌, ◌-◌, ◌≤◌, IfOk, [], drop, length, max, replicate};
 ghost use Rattle.termwiz_screen.specs.{numberless};
-ghost use Rattle.termwiz_surface.specs.{blank};
+ghost use Rattle.termwiz_surface.specs.{blank, spare_lines};
 
 use std::alloc::{AllocError, Global};
 use std::collections::VecDeque;
@@ -24,7 +24,8 @@ pub struct Scrollback {
 impl Scrollback {
     /// A scrollback of no lines.
     pub fn new(alloc: Global) -> Scrollback
-        ensures { result.lines.items ≡ [] }
+        ensures lines { result.lines.items ≡ [] }
+        ensures spare { spare_lines result ≡ 0 }
     {
         Scrollback {
             lines: VecDeque::new(alloc),
@@ -39,10 +40,21 @@ impl Scrollback {
         self.lines.len()
     }
 
+    /// Of how many removed lines the memory is kept for new rows.
+    pub fn spare_lines(&self) -> usize
+        ensures { result ≡ spare_lines self.now }
+    {
+        self.spare.len()
+    }
+
     /// Removes the first `count` lines, which are the oldest, or all where there are fewer. Their
     /// memory is kept for new rows, but never that of more lines than are left.
     pub fn remove_first(&mut self, count: usize)
-        ensures { self.new.lines.items ≡ drop count self.old.lines.items }
+        ensures lines { self.new.lines.items ≡ drop count self.old.lines.items }
+        // No more are spared than were removed, nor than are left.
+        ensures spared { spare_lines self.new ≤ spare_lines self.old
+            + (length self.old.lines.items - length self.new.lines.items) }
+        ensures few { spare_lines self.new ≤ length self.new.lines.items }
     {
         let removed = count.min(self.lines.len());
         let left = self.lines.len() - removed;
@@ -54,7 +66,9 @@ impl Scrollback {
 
     // Removes the oldest line, and keeps its memory, where that of fewer than `most` lines is kept.
     fn remove_oldest(&mut self, most: usize)
-        ensures { self.new.lines.items ≡ drop 1 self.old.lines.items }
+        ensures lines { self.new.lines.items ≡ drop 1 self.old.lines.items }
+        ensures spared { spare_lines self.new ≤ spare_lines self.old + 1 }
+        ensures few { spare_lines self.new ≤ max (spare_lines self.old) most }
     {
         let Some(line) = self.lines.pop_front() else {
             return;
@@ -70,6 +84,7 @@ impl Scrollback {
     pub(crate) fn blank_row(&mut self, alloc: Global, width: usize) -> Result<Line, AllocError>
         ensures made { IfOk result (λ line. line ≡ numberless (replicate width blank)) }
         ensures kept { self.new.lines ≡ self.old.lines }
+        ensures spare { spare_lines self.new ≤ spare_lines self.old }
     {
         let Some(mut line) = self.spare.pop() else {
             return Line::with_width(alloc, width, SEQ_ZERO);

@@ -13,6 +13,7 @@ mod copies;
 mod diff;
 mod full;
 mod lines;
+mod measuring;
 mod numbers;
 mod print;
 mod readings;

@@ -88,12 +88,12 @@ module _ (row : ℕ) (cells : List CellValue) (old new : SourceValue ChosenWidth
   drawn_no_scroll (number, Err errors.Numbers, is, adds, goes) e = absurd cc
   drawn_no_scroll (number, Err errors.Memory, is, adds, goes) e = absurd cc
 
-  pub draws_line : AddsList changes old outcome new → DrawsLineAs row cells old outcome new
-  draws_line added =
+  pub draws_line : ArePrintable (columns_by old.surface.widths) cells → AddsList changes old outcome new → DrawsLineAs row cells old outcome new
+  draws_line printable added =
       let a = subst (λ (cs : List ChangeValue). AddsList cs old outcome new) d.is added in
       record {
         drawn = a;
         restores = drawn_screen a (λ (s : Screen). s ≡ record (screen_of old.surface) { rows = s.rows }) refl;
-        shows = λ printable. drawn_screen a (λ (s : Screen). HasLine old.surface row cells s.rows) (d.shows printable);
+        shows = drawn_screen a (λ (s : Screen). HasLine old.surface row cells s.rows) (d.shows printable);
         no_scroll = drawn_no_scroll a;
       }

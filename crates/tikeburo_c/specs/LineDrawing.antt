@@ -1,5 +1,5 @@
 -- Lines drawn on rows of surfaces.
-use Rattle.std.specs.Prelude.{◌≡◌, ℕ, ◌<◌, ◌≤◌, Err, OnOk, Option, Some, None, List, [], ◌∷◌, slice_get}
+use Rattle.std.specs.Prelude.{◌≡◌, ◌⊎◌, ℕ, ◌<◌, ◌≤◌, Err, OnOk, Option, Some, None, List, [], ◌∷◌, slice_get}
 use Rattle.termwiz_cell.specs.CellValue.{CellValue}
 use Rattle.termwiz_cell.specs.ChangeValue.{ChangeValue}
 use Rattle.termwiz_line.specs.LineValue.{LineValue}
@@ -8,13 +8,14 @@ use Rattle.termwiz_screen.specs.Diff.{diff, restoring}
 use Rattle.termwiz_screen.specs.Printable.{ArePrintable}
 use Rattle.termwiz_share.specs.Source.{SourceValue}
 use Rattle.termwiz_surface.specs.Diffs.{HaveRow, one_row, screen_after}
+use Rattle.termwiz_surface.specs.Measuring.{AreMeasured}
 use Rattle.termwiz_surface.specs.Surface.{SurfaceValue, screen_of}
 use Rattle.tikeburo_c.specs.Changes.{AddsList}
 use Rattle.tikeburo_c.specs.Kept.{lines_of}
 use Rattle.tikeburo_c.specs.Outcomes.{Outcome}
 use Rattle.tikeburo_c.specs.Results.{OfKind, OnSurface, OrNoMemory, Refused}
 use Rattle.tikeburo_c.specs.Widths.{columns_by}
-use Rattle.tikeburo_c.specs.declared.failure.Failure.TheVariants.{NoHandle, Range, Region}
+use Rattle.tikeburo_c.specs.declared.failure.Failure.TheVariants.{NoHandle, OtherWidths, Range, Region}
 use Rattle.tikeburo_c.specs.declared.kept.Kept.{Kept}
 use Rattle.tikeburo_c.specs.declared.widths.ChosenWidths.{ChosenWidths}
 
@@ -42,16 +43,19 @@ pub record DrawsLineAs (row : ℕ) (cells : List CellValue) (old : SourceValue C
       OnOk outcome
       (screen_of new.surface ≡
       record (screen_of old.surface) { rows = (screen_of new.surface).rows })
-  -- the row shows the line, where each of its cells is one grapheme as the surface measures it
-  pub shows :
-      ArePrintable (columns_by old.surface.widths) cells →
-      OnOk outcome (HasLine old.surface row cells (screen_of new.surface).rows)
+  -- the row shows the line
+  pub shows : OnOk outcome (HasLine old.surface row cells (screen_of new.surface).rows)
   pub no_scroll : outcome ≡ Err Region → ⊥
 
+-- where each visible cell of the line is one grapheme, as wide as the surface measures it, and
 -- unless memory was refused first
 abbrev pub DrawsLine :
     ℕ → List CellValue → SourceValue ChosenWidths → Outcome → SourceValue ChosenWidths → Type 0
-DrawsLine row cells = OrNoMemory (DrawsLineAs row cells)
+DrawsLine row cells old outcome new =
+    (AreMeasured (columns_by old.surface.widths) cells ×
+    OrNoMemory (DrawsLineAs row cells) old outcome new)
+    ⊎ ((AreMeasured (columns_by old.surface.widths) cells → ⊥) ×
+    Refused OtherWidths old outcome new)
 
 -- of a line that there is
 abbrev pub DrawsOne :

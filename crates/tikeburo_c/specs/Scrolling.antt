@@ -1,11 +1,10 @@
 -- Lists of changes whose scrolled-off rows are kept: what the surface shows, and what the lines do.
 use Rattle.std.specs.Prelude.{◌≡◌, ℕ, Bool, true, false, Result, Ok, Err, Option, Some, None, List}
-use Rattle.termwiz_cell.specs.CellValue.{CellValue}
 use Rattle.termwiz_cell.specs.ChangeValue.{ChangeValue}
 use Rattle.termwiz_line.specs.LineValue.{LineValue}
 use Rattle.termwiz_share.specs.Source.{SourceValue}
-use Rattle.termwiz_surface.specs.ScrolledOff.{KeepsLines, ScrollsOff, rows_scrolled_off}
-use Rattle.termwiz_surface.specs.Surface.{SurfaceValue, screen_of}
+use Rattle.termwiz_surface.specs.ScrolledOff.{BeginsRows, ScrollsOff, ShownRow, rows_scrolled_off}
+use Rattle.termwiz_surface.specs.Surface.{SurfaceValue, kept_of, screen_of}
 use Rattle.tikeburo_c.specs.Kept.{lines_of}
 use Rattle.tikeburo_c.specs.Lists.{AddsListed, AddsListedUnlogged, listed_in}
 use Rattle.tikeburo_c.specs.Outcomes.{Outcome}
@@ -19,15 +18,15 @@ use Rattle.tikeburo_c.specs.declared.lists.ChangeFields.{ChangeFields}
 use Rattle.tikeburo_c.specs.declared.widths.ChosenWidths.{ChosenWidths}
 
 -- the rows that changes scroll off a surface, the first one first
-abbrev pub rows_off : SurfaceValue ChosenWidths → List ChangeValue → List (List CellValue)
-rows_off s changes = rows_scrolled_off (columns_by s.widths) (screen_of s) changes
+abbrev pub rows_off : SurfaceValue ChosenWidths → List ChangeValue → List ShownRow
+rows_off s changes = rows_scrolled_off (columns_by s.widths) (screen_of s) (kept_of s) changes
 
--- Lines that show these rows come behind the old ones. Where memory was refused, some lines may,
--- and after any other error none do.
+-- Lines that show these rows come behind the old ones. Where memory was refused, the first of them
+-- may, and after any other error none do.
 abbrev pub AddsRows :
-    ℕ → List (List CellValue) → List LineValue → Outcome → List LineValue → Type 0
+    ℕ → List ShownRow → List LineValue → Outcome → List LineValue → Type 0
 AddsRows width rows old (Ok _) new = ScrollsOff width rows old new
-AddsRows width rows old (Err Memory) new = KeepsLines old new
+AddsRows width rows old (Err Memory) new = BeginsRows width rows old new
 AddsRows width rows old (Err _) new = new ≡ old
 
 -- the lines are as they were

@@ -56,6 +56,9 @@ fn line_drawing(
 fn draw_line(surface: &mut Source<ChosenWidths>, row: usize, line: &Line) -> Result<(), Failure>
     ensures { DrawsLine row line.now.cells surface.old result surface.new }
 {
+    if !surface.surface().measures(line) {
+        return Err(Failure::OtherWidths);
+    }
     let changes = line_drawing(surface.surface(), row, line)?;
     add_list(surface, changes)
 }

@@ -2,7 +2,7 @@
 ghost use Rattle.std.specs.Prelude.{◌≡◌, ◌↔◌, ◌+◌, ◌-◌, ◌≤◌, IfOk, List, OnErr, OnOk, drop, false};
 ghost use Rattle.std.specs.Prelude.{length, map, true};
 ghost use Rattle.uses.specs.{AddsScrolledOff, AddsUnlogged, measure, next_number, printed_text};
-ghost use Rattle.uses.specs.{rows_scrolled_off, screen_of};
+ghost use Rattle.uses.specs.{kept_of, rows_scrolled_off, screen_of};
 ghost use Rattle.uses.specs.{IsWhole, IsWrapped, LineValue, line_contents, line_eq, visible};
 
 use std::alloc::AllocError;
@@ -14,8 +14,8 @@ use termwiz_surface::{
 /// Prints what a program wrote, and moves the rows that it scrolls off the top of the screen to the
 /// end of the kept lines.
 ///
-/// `Numbers`: nothing has changed. `Memory`: the text may be printed in part, and rows that it
-/// scrolled off may be kept.
+/// `Numbers`: nothing has changed. `Memory`: the text may be printed in part, and the first of the
+/// rows that it scrolls off may be kept.
 pub fn print_and_keep<W: Widths>(
     surface: &mut Surface<W>,
     output: &str,
@@ -24,14 +24,15 @@ pub fn print_and_keep<W: Widths>(
     ensures adds { AddsUnlogged (measure W.width_of surface.old.widths)
         surface.old (printed_text output.now) (next_number surface.old.log - 1 + 1)
         result surface.new }
-    // Behind the old lines there are those that show the rows, and no others.
+    // Behind the old lines there are those that show the rows as they were shown, and no others.
     ensures keeps { AddsScrolledOff surface.old.width
         (rows_scrolled_off (measure W.width_of surface.old.widths) (screen_of surface.old)
-        (printed_text output.now)) result kept.old.lines.items kept.new.lines.items }
+        (kept_of surface.old) (printed_text output.now))
+        result kept.old.lines.items kept.new.lines.items }
     ensures count { OnOk result (length kept.new.lines.items
         ≡ length kept.old.lines.items + length
         (rows_scrolled_off (measure W.width_of surface.old.widths) (screen_of surface.old)
-        (printed_text output.now))) }
+        (kept_of surface.old) (printed_text output.now))) }
 {
     surface.add_unlogged_scrolling(&[LentChange::Text(output)], kept)
 }

@@ -187,8 +187,8 @@ impl<W: Widths> Surface<W> {
             self.old text.now rest.now self.new) }
         // Of what is printed only the first grapheme scrolls.
         ensures scrolls { IfOk result (λ rest. let f = measure W.width_of self.old.widths in
-            left_behind_first f (screen_of self.old) (graphemes true text.now)
-            ≡ left_by f (screen_of self.new) (graphemes true rest.now)) }
+            left_behind_first f (screen_of self.old) (kept_of self.old) (graphemes true text.now)
+            ≡ left_by f (screen_of self.new) (kept_of self.new) (graphemes true rest.now)) }
         ensures err { OnErr result (SameFrame self.old self.new) }
     {
         if begins_plain(text) {

@@ -1,15 +1,16 @@
 //! Changes whose lines that scroll off the top are kept.
 ghost use Rattle.std.specs.Prelude.{◌≡◌, ◌≢◌, ◌+◌, ◌-◌, ◌<◌, ◌≤◌, ◌^◌, ◌∷◌, [], OnErr, ℕ, length};
-ghost use Rattle.std.specs.Prelude.{min, replicate, slice_set, take, vec_len, ◌==◌, if◌then◌else◌};
+ghost use Rattle.std.specs.Prelude.{replicate, slice_set, vec_len, ◌==◌};
 ghost use Rattle.termwiz_surface.specs.{AddsUnlogged, Becomes, IfOk, IsOk, KeepsNames};
-ghost use Rattle.termwiz_surface.specs.{KeepsViewers, Adds, AddsScrolledOff, KeepsLines};
+ghost use Rattle.termwiz_surface.specs.{KeepsViewers, Adds, AddsScrolledOff, BeginsRows};
 ghost use Rattle.termwiz_surface.specs.{LeavesRows, Makes, MakesUnlogged, NumbersRows, OnOk};
 ghost use Rattle.termwiz_surface.specs.{PrintsFirst, SameFrame, ScrollsOff, blank, change_value};
 ghost use Rattle.termwiz_surface.specs.{first_leaves, graphemes, kept_of, knows, left_by};
 ghost use Rattle.termwiz_surface.specs.{left_step, lent_value, map, measure, moves_down};
 ghost use Rattle.termwiz_surface.specs.{next_number, no_flags, passed, piece_of, print, print_kept};
 ghost use Rattle.termwiz_surface.specs.{region_fits, region_up, regions_fit, replay, replay_kept};
-ghost use Rattle.termwiz_surface.specs.{row_at, rows_scrolled_off, screen_of, step, IsSound, false};
+ghost use Rattle.termwiz_surface.specs.{first_rows, left_region, row_shown, rows_scrolled_off};
+ghost use Rattle.termwiz_surface.specs.{screen_of, spare_lines, step, IsSound, false};
 ghost use Rattle.termwiz_surface.specs.{scroll_touches, step_kept, topped, touched, touched_by};
 ghost use Rattle.termwiz_surface.specs.{nat_lt, touches, true};
 
@@ -35,10 +36,11 @@ impl<W: Widths> Surface<W> {
             })
             (λ j. j == row) self.new) }
         ensures moves { OnOk result (ScrollsOff self.old.width
-            (row_at (screen_of self.old).rows row ∷ [])
+            (row_shown (screen_of self.old) (kept_of self.old) row ∷ [])
             scrollback.old.lines.items scrollback.new.lines.items) }
         ensures err { OnErr result (self.new ≡ self.old) }
         ensures kept { OnErr result (scrollback.new.lines.items ≡ scrollback.old.lines.items) }
+        ensures spare { spare_lines scrollback.new ≤ spare_lines scrollback.old }
         ensures sound { OnOk result (IsSound (measure W.width_of self.old.widths) self.old) }
     {
         // Once there is room for the row, nothing fails.
@@ -63,11 +65,13 @@ impl<W: Widths> Surface<W> {
             })
             (λ j. nat_lt j count) self.new) }
         ensures moves { OnOk result (ScrollsOff self.old.width
-            (take count (screen_of self.old).rows)
+            (first_rows (screen_of self.old) (kept_of self.old) count)
             scrollback.old.lines.items scrollback.new.lines.items) }
         ensures err { OnErr result (SameFrame self.old self.new) }
-        ensures kept { OnErr result (
-            KeepsLines scrollback.old.lines.items scrollback.new.lines.items) }
+        ensures kept { OnErr result (BeginsRows self.old.width
+            (first_rows (screen_of self.old) (kept_of self.old) count)
+            scrollback.old.lines.items scrollback.new.lines.items) }
+        ensures spare { spare_lines scrollback.new ≤ spare_lines scrollback.old }
     {
         for row in 0..count {
             self.take_row(row, scrollback)?;
@@ -121,12 +125,15 @@ impl<W: Widths> Surface<W> {
             self.old text.now rest.now self.new) }
         ensures scrolls { IfOk result (λ rest. let f = measure W.width_of self.old.widths in
             LeavesRows self.old.width
-            (left_by f (screen_of self.old) (graphemes true text.now))
-            (left_by f (screen_of self.new) (graphemes true rest.now))
+            (left_by f (screen_of self.old) (kept_of self.old) (graphemes true text.now))
+            (left_by f (screen_of self.new) (kept_of self.new) (graphemes true rest.now))
             scrollback.old.lines.items scrollback.new.lines.items) }
         ensures err { OnErr result (SameFrame self.old self.new) }
-        ensures kept { OnErr result (
-            KeepsLines scrollback.old.lines.items scrollback.new.lines.items) }
+        ensures kept { OnErr result (BeginsRows self.old.width
+            (left_by (measure W.width_of self.old.widths) (screen_of self.old)
+            (kept_of self.old) (graphemes true text.now))
+            scrollback.old.lines.items scrollback.new.lines.items) }
+        ensures spare { spare_lines scrollback.new ≤ spare_lines scrollback.old }
     {
         // A surface has a row 0.
         let _ = &self.rows;
@@ -152,11 +159,14 @@ impl<W: Widths> Surface<W> {
             (touched_by f s (graphemes true text.now)) self.new) }
         ensures scrolls { OnOk result (ScrollsOff self.old.width
             (left_by (measure W.width_of self.old.widths) (screen_of self.old)
-            (graphemes true text.now))
+            (kept_of self.old) (graphemes true text.now))
             scrollback.old.lines.items scrollback.new.lines.items) }
         ensures err { OnErr result (SameFrame self.old self.new) }
-        ensures kept { OnErr result (
-            KeepsLines scrollback.old.lines.items scrollback.new.lines.items) }
+        ensures kept { OnErr result (BeginsRows self.old.width
+            (left_by (measure W.width_of self.old.widths) (screen_of self.old)
+            (kept_of self.old) (graphemes true text.now))
+            scrollback.old.lines.items scrollback.new.lines.items) }
+        ensures spare { spare_lines scrollback.new ≤ spare_lines scrollback.old }
     {
         let mut rest = text;
         'pieces: while !rest.is_empty() {
@@ -183,11 +193,13 @@ impl<W: Widths> Surface<W> {
             })
             (scroll_touches first size count) self.new) }
         ensures scrolls { OnOk result (ScrollsOff self.old.width
-            (if first == 0 then take (min count size) (screen_of self.old).rows else [])
+            (left_region (screen_of self.old) (kept_of self.old) first size count)
             scrollback.old.lines.items scrollback.new.lines.items) }
         ensures err { OnErr result (SameFrame self.old self.new) }
-        ensures kept { OnErr result (
-            KeepsLines scrollback.old.lines.items scrollback.new.lines.items) }
+        ensures kept { OnErr result (BeginsRows self.old.width
+            (left_region (screen_of self.old) (kept_of self.old) first size count)
+            scrollback.old.lines.items scrollback.new.lines.items) }
+        ensures spare { spare_lines scrollback.new ≤ spare_lines scrollback.old }
     {
         if first > 0 {
             self.scroll_region_up(first, size, count)?;
@@ -211,11 +223,14 @@ impl<W: Widths> Surface<W> {
             (touches f s (change_value change.now)) self.new) }
         ensures scrolls { OnOk result (ScrollsOff self.old.width
             (left_step (measure W.width_of self.old.widths) (screen_of self.old)
-            (change_value change.now))
+            (kept_of self.old) (change_value change.now))
             scrollback.old.lines.items scrollback.new.lines.items) }
         ensures err { OnErr result (SameFrame self.old self.new) }
-        ensures kept { OnErr result (
-            KeepsLines scrollback.old.lines.items scrollback.new.lines.items) }
+        ensures kept { OnErr result (BeginsRows self.old.width
+            (left_step (measure W.width_of self.old.widths) (screen_of self.old)
+            (kept_of self.old) (change_value change.now))
+            scrollback.old.lines.items scrollback.new.lines.items) }
+        ensures spare { spare_lines scrollback.new ≤ spare_lines scrollback.old }
     {
         match change {
             Change::Text(text) => self.print_text_scrolling(text.as_str(), scrollback),
@@ -246,11 +261,14 @@ impl<W: Widths> Surface<W> {
             (touches f s (lent_value change.now)) self.new) }
         ensures scrolls { OnOk result (ScrollsOff self.old.width
             (left_step (measure W.width_of self.old.widths) (screen_of self.old)
-            (lent_value change.now))
+            (kept_of self.old) (lent_value change.now))
             scrollback.old.lines.items scrollback.new.lines.items) }
         ensures err { OnErr result (SameFrame self.old self.new) }
-        ensures kept { OnErr result (
-            KeepsLines scrollback.old.lines.items scrollback.new.lines.items) }
+        ensures kept { OnErr result (BeginsRows self.old.width
+            (left_step (measure W.width_of self.old.widths) (screen_of self.old)
+            (kept_of self.old) (lent_value change.now))
+            scrollback.old.lines.items scrollback.new.lines.items) }
+        ensures spare { spare_lines scrollback.new ≤ spare_lines scrollback.old }
     {
         match change {
             LentChange::Text(text) => self.print_text_scrolling(text, scrollback),
@@ -272,11 +290,14 @@ impl<W: Widths> Surface<W> {
             (touched f s (map lent_value changes.now)) self.new) }
         ensures scrolls { OnOk result (ScrollsOff self.old.width
             (rows_scrolled_off (measure W.width_of self.old.widths) (screen_of self.old)
-            (map lent_value changes.now))
+            (kept_of self.old) (map lent_value changes.now))
             scrollback.old.lines.items scrollback.new.lines.items) }
         ensures err { OnErr result (SameFrame self.old self.new) }
-        ensures kept { OnErr result (
-            KeepsLines scrollback.old.lines.items scrollback.new.lines.items) }
+        ensures kept { OnErr result (BeginsRows self.old.width
+            (rows_scrolled_off (measure W.width_of self.old.widths) (screen_of self.old)
+            (kept_of self.old) (map lent_value changes.now))
+            scrollback.old.lines.items scrollback.new.lines.items) }
+        ensures spare { spare_lines scrollback.new ≤ spare_lines scrollback.old }
         ensures empty { OnErr result (0 < length changes.now) }
         ensures none { length changes.now ≡ 0 → self.new ≡ self.old }
     {
@@ -298,11 +319,14 @@ impl<W: Widths> Surface<W> {
             self.old (map lent_value changes.now) self.new) }
         ensures scrolls { OnOk result (ScrollsOff self.old.width
             (rows_scrolled_off (measure W.width_of self.old.widths) (screen_of self.old)
-            (map lent_value changes.now))
+            (kept_of self.old) (map lent_value changes.now))
             scrollback.old.lines.items scrollback.new.lines.items) }
         ensures err { OnErr result (SameFrame self.old self.new) }
-        ensures kept { OnErr result (
-            KeepsLines scrollback.old.lines.items scrollback.new.lines.items) }
+        ensures kept { OnErr result (BeginsRows self.old.width
+            (rows_scrolled_off (measure W.width_of self.old.widths) (screen_of self.old)
+            (kept_of self.old) (map lent_value changes.now))
+            scrollback.old.lines.items scrollback.new.lines.items) }
+        ensures spare { spare_lines scrollback.new ≤ spare_lines scrollback.old }
         ensures some { OnErr result (0 < length changes.now) }
         ensures none { length changes.now ≡ 0 → NumbersRows self.old self.new }
     {
@@ -317,8 +341,8 @@ impl<W: Widths> Surface<W> {
     /// first. Texts scroll lines off, and `ScrollRegionUp` does where its region begins at row 0.
     ///
     /// Returns what `add_unlogged` returns. `ScrollRegion`, `Numbers`: the scrollback is unchanged
-    /// too. `Memory`: the scrollback keeps its old lines, and may have lines of changes that were
-    /// applied behind them.
+    /// too. `Memory`: behind its old lines the scrollback may have the first of those that the
+    /// changes scroll off.
     pub fn add_unlogged_scrolling(
         &mut self,
         changes: &[LentChange<'_>],
@@ -327,11 +351,13 @@ impl<W: Widths> Surface<W> {
         ensures adds { AddsUnlogged (measure W.width_of self.old.widths)
             self.old (map lent_value changes.now)
             (next_number self.old.log - 1 + length changes.now) result self.new }
-        // The lines that scroll off are added, and the old ones stay, even after an error.
+        // The lines that scroll off are added, as they were shown. The old ones stay, even after an
+        // error.
         ensures scrolled { AddsScrolledOff self.old.width
             (rows_scrolled_off (measure W.width_of self.old.widths) (screen_of self.old)
-            (map lent_value changes.now))
+            (kept_of self.old) (map lent_value changes.now))
             result scrollback.old.lines.items scrollback.new.lines.items }
+        ensures spare { spare_lines scrollback.new ≤ spare_lines scrollback.old }
         ensures empty { length changes.now ≡ 0 → IsOk result }
         ensures unlogged { OnOk result (self.new.log ≡ passed self.old.log (length changes.now)) }
         // Whoever asks by another number than the surface's gets a repaint.
@@ -366,11 +392,14 @@ impl<W: Widths> Surface<W> {
             (touched f s (map change_value changes.now)) self.new) }
         ensures scrolls { OnOk result (ScrollsOff self.old.width
             (rows_scrolled_off (measure W.width_of self.old.widths) (screen_of self.old)
-            (map change_value changes.now))
+            (kept_of self.old) (map change_value changes.now))
             scrollback.old.lines.items scrollback.new.lines.items) }
         ensures err { OnErr result (SameFrame self.old self.new) }
-        ensures kept { OnErr result (
-            KeepsLines scrollback.old.lines.items scrollback.new.lines.items) }
+        ensures kept { OnErr result (BeginsRows self.old.width
+            (rows_scrolled_off (measure W.width_of self.old.widths) (screen_of self.old)
+            (kept_of self.old) (map change_value changes.now))
+            scrollback.old.lines.items scrollback.new.lines.items) }
+        ensures spare { spare_lines scrollback.new ≤ spare_lines scrollback.old }
         ensures empty { OnErr result (0 < length changes.now) }
         ensures none { length changes.now ≡ 0 → self.new ≡ self.old }
     {
@@ -392,11 +421,14 @@ impl<W: Widths> Surface<W> {
             self.old (map change_value changes.items) self.new) }
         ensures scrolls { OnOk result (ScrollsOff self.old.width
             (rows_scrolled_off (measure W.width_of self.old.widths) (screen_of self.old)
-            (map change_value changes.items))
+            (kept_of self.old) (map change_value changes.items))
             scrollback.old.lines.items scrollback.new.lines.items) }
         ensures err { OnErr result (SameFrame self.old self.new) }
-        ensures kept { OnErr result (
-            KeepsLines scrollback.old.lines.items scrollback.new.lines.items) }
+        ensures kept { OnErr result (BeginsRows self.old.width
+            (rows_scrolled_off (measure W.width_of self.old.widths) (screen_of self.old)
+            (kept_of self.old) (map change_value changes.items))
+            scrollback.old.lines.items scrollback.new.lines.items) }
+        ensures spare { spare_lines scrollback.new ≤ spare_lines scrollback.old }
         ensures some { OnErr result (0 < vec_len changes) }
         ensures none { vec_len changes ≡ 0 → NumbersRows self.old self.new }
     {
@@ -412,8 +444,8 @@ impl<W: Widths> Surface<W> {
     /// lines off, and `ScrollRegionUp` does where its region begins at row 0.
     ///
     /// Returns what `add_changes` returns. `ScrollRegion`, `Numbers`: the scrollback is unchanged
-    /// too. `Memory`: the scrollback keeps its old lines, and may have lines of changes that were
-    /// applied behind them.
+    /// too. `Memory`: behind its old lines the scrollback may have the first of those that the
+    /// changes scroll off.
     pub fn add_changes_scrolling(
         &mut self,
         changes: Vec<Change>,
@@ -422,11 +454,13 @@ impl<W: Widths> Surface<W> {
         ensures adds { Adds (measure W.width_of self.old.widths)
             self.old (map change_value changes.items)
             (next_number self.old.log - 1 + vec_len changes) result self.new }
-        // The lines that scroll off are added, and the old ones stay, even after an error.
+        // The lines that scroll off are added, as they were shown. The old ones stay, even after an
+        // error.
         ensures scrolled { AddsScrolledOff self.old.width
             (rows_scrolled_off (measure W.width_of self.old.widths) (screen_of self.old)
-            (map change_value changes.items))
+            (kept_of self.old) (map change_value changes.items))
             result scrollback.old.lines.items scrollback.new.lines.items }
+        ensures spare { spare_lines scrollback.new ≤ spare_lines scrollback.old }
         ensures empty { vec_len changes ≡ 0 → IsOk result }
         // Each viewer that follows the surface still follows it, even after an error.
         ensures followed { KeepsViewers (measure W.width_of) self.old self.new }

@@ -5,16 +5,17 @@ use Rattle.termwiz_cell.specs.Measure.{measure}
 use Rattle.termwiz_line.specs.LineValue.{LineValue}
 use Rattle.termwiz_line.proofs.Fills.{on_err}
 use Rattle.termwiz_screen.specs.Step.{step, step_kept}
-use Rattle.termwiz_surface.specs.ScrolledOff.{ScrollsOff, left_step}
+use Rattle.termwiz_surface.specs.ScrolledOff.{BeginsRows, ScrollsOff, left_step}
 use Rattle.termwiz_surface.specs.Surface.{SurfaceValue, Becomes, screen_of, kept_of}
+use Rattle.termwiz_surface.proofs.ScrolledOff.{AppliesPart, mapped-next, part-all, part-begins, part-fits, part-more, part-none, part-off}
 use Rattle.termwiz_surface.specs.Touching.{touches}
-use Rattle.termwiz_surface.proofs.ScrolledOff.{AppliesPart, keeps-leaves, keeps-then, mapped-next, part-all, part-fits, part-more, part-none, part-off}
 use Rattle.termwiz_surface.proofs.surface.Surface.apply_all_scrolling.Goals as goal
 
 pub loop-change-init : goal.loop-change-init
 loop-change-init g c = record {
   part = part-none (measure g.W.Widths.width_of c.args.self.now.widths) c.args.self.now (map change_value c.args.changes.now) c.args.scrollback.now.lines.items c.requires;
   none = λ e. refl;
+  spare = omega arith;
 }
 
 pub apply_scrolling-requires : goal.apply_scrolling-requires
@@ -29,8 +30,19 @@ apply_scrolling-requires g c =
 
 pub returns-in_err-apply_scrolling-clause-kept : goal.returns-in_err-apply_scrolling-clause-kept
 returns-in_err-apply_scrolling-clause-kept g c =
-    let before = c.loop-change.invariant.part in
-    on_err _ (keeps-then c.args.scrollback.now.lines.items c.loop-change.scrollback.lines.items c.apply_scrolling.new.scrollback.lines.items (keeps-leaves c.args.self.now.width _ _ c.args.scrollback.now.lines.items c.loop-change.scrollback.lines.items before.leaves) c.in_err-apply_scrolling.ensures.kept)
+    let f : List ℕ → ℕ = measure g.W.Widths.width_of c.args.self.now.widths in
+    let all : List ChangeValue = map change_value c.args.changes.now in
+    let i : ℕ = c.loop-change.change-index in
+    let s : SurfaceValue _ = c.loop-change.self in
+    let change : ChangeValue = change_value c.change-item.result in
+    let left : List ChangeValue = map change_value (drop (i + 1) c.args.changes.now) in
+    let u : List LineValue = c.args.scrollback.now.lines.items in
+    let v : List LineValue = c.loop-change.scrollback.lines.items in
+    let inside : i < length c.args.changes.now = omega arith in
+    let next = mapped-next change_value c.args.changes.now i c.change-item.result inside c.change-item.is in
+    let before : AppliesPart f c.args.self.now all (change ∷ left) u s v = subst (λ (cs : List ChangeValue). AppliesPart f c.args.self.now all cs u s v) next c.loop-change.invariant.part in
+    let begins = subst (λ (w : _). BeginsRows s.width (left_step (measure g.W.Widths.width_of w) (screen_of s) (kept_of s) change) v c.apply_scrolling.new.scrollback.lines.items) before.frame.widths c.in_err-apply_scrolling.ensures.kept in
+    on_err _ (part-begins f c.args.self.now all u change left s v before c.apply_scrolling.new.scrollback.lines.items begins)
 
 pub loop-change-preserved : goal.loop-change-preserved
 loop-change-preserved g c =
@@ -46,10 +58,11 @@ loop-change-preserved g c =
     let next = mapped-next change_value c.args.changes.now i c.change-item.result inside c.change-item.is in
     let before : AppliesPart f c.args.self.now all (change ∷ left) u s v = subst (λ (cs : List ChangeValue). AppliesPart f c.args.self.now all cs u s v) next c.loop-change.invariant.part in
     let becomes = subst (λ (w : _). Becomes s (step (measure g.W.Widths.width_of w) (screen_of s) change) (step_kept (measure g.W.Widths.width_of w) (screen_of s) (kept_of s) change) (touches (measure g.W.Widths.width_of w) (screen_of s) change) c.apply_scrolling.new.self) before.frame.widths c.in_ok-apply_scrolling.ensures.ok in
-    let off = subst (λ (w : _). ScrollsOff s.width (left_step (measure g.W.Widths.width_of w) (screen_of s) change) v c.apply_scrolling.new.scrollback.lines.items) before.frame.widths c.in_ok-apply_scrolling.ensures.scrolls in
+    let off = subst (λ (w : _). ScrollsOff s.width (left_step (measure g.W.Widths.width_of w) (screen_of s) (kept_of s) change) v c.apply_scrolling.new.scrollback.lines.items) before.frame.widths c.in_ok-apply_scrolling.ensures.scrolls in
     record {
       part = part-more f c.args.self.now all u change left s v before c.apply_scrolling.new.self c.apply_scrolling.new.scrollback.lines.items becomes off;
       none = λ e. absurd (omega arith);
+      spare = omega (arith, c.loop-change.invariant.spare, c.apply_scrolling.ensures.spare);
     }
 
 pub returns-clause-ok : goal.returns-clause-ok

@@ -1,6 +1,7 @@
-use Rattle.std.proofs.Common.{◌≡◌, drop, map}
+use Rattle.std.proofs.Common.{◌≡◌, ◌≤◌, drop, map}
 use Rattle.termwiz_cell.specs.ChangeValue.{change_value}
 use Rattle.termwiz_cell.specs.Measure.{measure}
+use Rattle.termwiz_surface.specs.Scrollback.{spare_lines}
 use Rattle.termwiz_surface.proofs.ScrolledOff.{AppliesPart}
 use Rattle.termwiz_surface.proofs.surface.Surface.apply_all_scrolling.Given as goal
 
@@ -8,4 +9,5 @@ abbrev pub invariant-loop-change : goal.invariant-loop-change
 invariant-loop-change g l = record {
   part : AppliesPart (measure g.W.Widths.width_of l.fn.self.widths) l.fn.self (map change_value l.changes) (map change_value (drop l.change-index l.changes)) l.fn.scrollback.lines.items l.self l.scrollback.lines.items;
   none : l.change-index ≡ 0 → l.self ≡ l.fn.self;
+  spare : spare_lines l.scrollback ≤ spare_lines l.fn.scrollback;
 }

@@ -1,4 +1,4 @@
-use Rattle.std.proofs.Common.{◌≡◌, ℕ, ◌+◌, ◌≤◌, true, map, length, length-append, sym, ap, subst, ◌∙◌, arith}
+use Rattle.std.proofs.Common.{◌≡◌, ℕ, [], ◌+◌, ◌≤◌, true, map, length, length-append, sym, ap, subst, ◌∙◌, arith}
 use Rattle.std.proofs.lemmas.List.{length-map}
 use Rattle.termwiz_cell.specs.ChangeValue.{change_value}
 use Rattle.termwiz_cell.specs.Measure.{measure}
@@ -6,10 +6,12 @@ use Rattle.termwiz_screen.specs.Log.{next_number}
 use Rattle.termwiz_screen.specs.Step.{regions_fit}
 use Rattle.termwiz_surface.specs.Adding.{with_log}
 use Rattle.termwiz_surface.specs.RowNumbers.{NumbersRows}
-use Rattle.termwiz_surface.specs.ScrolledOff.{ScrollsOff, rows_scrolled_off}
-use Rattle.termwiz_surface.specs.Surface.{SurfaceValue, screen_of}
+use Rattle.termwiz_surface.specs.ScrolledOff.{BeginsRows, ScrollsOff, rows_scrolled_off}
+use Rattle.termwiz_surface.specs.Surface.{SurfaceValue, kept_of, screen_of}
 use Rattle.termwiz_surface.proofs.Drawn.{any_log}
+use Rattle.termwiz_line.proofs.Fills.{on_err}
 use Rattle.termwiz_surface.proofs.RowNumbers.{numbers-none}
+use Rattle.termwiz_surface.proofs.ScrolledOff.{begins-leaves, begins-none}
 use Rattle.termwiz_screen.proofs.LogRegions.{regions-append}
 use Rattle.termwiz_surface.proofs.surface.Surface.make_all_scrolling.Goals as goal
 
@@ -42,8 +44,23 @@ returns-clause-none g c = λ none.
     omega (arith, ap next_number c.in_ok-append.ensures.ok, length-append c.self-2.inside.log.changes (map change_value c.args.changes.items), ap (λ (s : SurfaceValue _). next_number s.log) (c.self-2.view_is ∙ same), ap next_number c.in_ok-reserve.ensures.unchanged, ap (λ (s : SurfaceValue _). next_number s.log) c.self.view_is) in
     subst (λ (m : SurfaceValue _). NumbersRows old (with_log m c.append.new.self)) (sym c.self-2.view_is) (numbers-none old new mark c.reserve.new.self c.append.new.self same grows)
 
+pub returns-in_err-reserve-clause-kept : goal.returns-in_err-reserve-clause-kept
+returns-in_err-reserve-clause-kept g c = on_err _ (begins-none c.args.self.now.width _ c.args.scrollback.now.lines.items)
+
+pub returns-in_err-apply_all_scrolling-clause-kept : goal.returns-in_err-apply_all_scrolling-clause-kept
+returns-in_err-apply_all_scrolling-clause-kept g c =
+    let f = λ (s : SurfaceValue _). measure g.W.Widths.width_of s.widths in
+    let begins = subst (λ (s : SurfaceValue _). BeginsRows s.width (rows_scrolled_off (f s) (screen_of s) (kept_of s) (map change_value c.as_slice.result.now)) c.args.scrollback.now.lines.items c.apply_all_scrolling.new.scrollback.lines.items) c.self.view_is c.in_err-apply_all_scrolling.ensures.kept in
+    on_err _ (rw c.as_slice.ensures.value at begins)
+
+pub returns-in_err-append-clause-kept : goal.returns-in_err-append-clause-kept
+returns-in_err-append-clause-kept g c =
+    let f = λ (s : SurfaceValue _). measure g.W.Widths.width_of s.widths in
+    let scrolls = subst (λ (s : SurfaceValue _). ScrollsOff s.width (rows_scrolled_off (f s) (screen_of s) (kept_of s) (map change_value c.as_slice.result.now)) c.args.scrollback.now.lines.items c.apply_all_scrolling.new.scrollback.lines.items) c.self.view_is c.in_ok-apply_all_scrolling.ensures.scrolls in
+    on_err _ (begins-leaves c.args.self.now.width _ [] c.args.scrollback.now.lines.items c.apply_all_scrolling.new.scrollback.lines.items (rw c.as_slice.ensures.value at scrolls))
+
 pub returns-clause-scrolls : goal.returns-clause-scrolls
 returns-clause-scrolls g c =
     let f = λ (s : SurfaceValue _). measure g.W.Widths.width_of s.widths in
-    let scrolls = subst (λ (s : SurfaceValue _). ScrollsOff s.width (rows_scrolled_off (f s) (screen_of s) (map change_value c.as_slice.result.now)) c.args.scrollback.now.lines.items c.apply_all_scrolling.new.scrollback.lines.items) c.self.view_is c.in_ok-apply_all_scrolling.ensures.scrolls in
+    let scrolls = subst (λ (s : SurfaceValue _). ScrollsOff s.width (rows_scrolled_off (f s) (screen_of s) (kept_of s) (map change_value c.as_slice.result.now)) c.args.scrollback.now.lines.items c.apply_all_scrolling.new.scrollback.lines.items) c.self.view_is c.in_ok-apply_all_scrolling.ensures.scrolls in
     rw c.as_slice.ensures.value at scrolls

@@ -10,7 +10,8 @@ use Rattle.termwiz_surface.specs.Touching.{touched}
 use Rattle.termwiz_surface.specs.Unlogged.{MakesUnlogged, lent_value}
 use Rattle.termwiz_surface.proofs.Drawn.{any_log}
 use Rattle.termwiz_surface.specs.RowNumbers.{NumbersRows}
-use Rattle.termwiz_surface.specs.ScrolledOff.{ScrollsOff, rows_scrolled_off}
+use Rattle.termwiz_surface.specs.ScrolledOff.{BeginsRows, ScrollsOff, rows_scrolled_off}
+use Rattle.termwiz_line.proofs.Fills.{on_err}
 use Rattle.termwiz_surface.proofs.RowNumbers.{numbers-none}
 use Rattle.termwiz_surface.proofs.Unlogged.{makes-unlogged}
 use Rattle.termwiz_surface.proofs.surface.Surface.make_unlogged_scrolling.Goals as goal
@@ -54,4 +55,8 @@ returns-clause-none g c = λ none.
 
 pub returns-clause-scrolls : goal.returns-clause-scrolls
 returns-clause-scrolls g c =
-    subst (λ (s : SurfaceValue _). ScrollsOff s.width (rows_scrolled_off (measure g.W.Widths.width_of s.widths) (screen_of s) (map lent_value c.args.changes.now)) c.args.scrollback.now.lines.items c.apply_all_lent_scrolling.new.scrollback.lines.items) c.self.view_is c.in_ok-apply_all_lent_scrolling.ensures.scrolls
+    subst (λ (s : SurfaceValue _). ScrollsOff s.width (rows_scrolled_off (measure g.W.Widths.width_of s.widths) (screen_of s) (kept_of s) (map lent_value c.args.changes.now)) c.args.scrollback.now.lines.items c.apply_all_lent_scrolling.new.scrollback.lines.items) c.self.view_is c.in_ok-apply_all_lent_scrolling.ensures.scrolls
+
+pub returns-in_err-apply_all_lent_scrolling-clause-kept : goal.returns-in_err-apply_all_lent_scrolling-clause-kept
+returns-in_err-apply_all_lent_scrolling-clause-kept g c =
+    on_err _ (subst (λ (s : SurfaceValue _). BeginsRows s.width (rows_scrolled_off (measure g.W.Widths.width_of s.widths) (screen_of s) (kept_of s) (map lent_value c.args.changes.now)) c.args.scrollback.now.lines.items c.apply_all_lent_scrolling.new.scrollback.lines.items) c.self.view_is c.in_err-apply_all_lent_scrolling.ensures.kept)

@@ -10,7 +10,7 @@ use Rattle.termwiz_cell.specs.Measure.{measure}
 use Rattle.termwiz_storage.specs.Letters.{letter_cell, set_letters}
 use Rattle.termwiz_storage.specs.Stored.{set_run}
 use Rattle.termwiz_screen.specs.Runs.{AreNarrow, AreWide}
-use Rattle.termwiz_surface.specs.Surface.{SurfaceValue, screen_of}
+use Rattle.termwiz_surface.specs.Surface.{SurfaceValue, kept_of, screen_of}
 use Rattle.termwiz_surface.proofs.Printing.{AllPrint-plain, AllPrint-letters, letter_run, plain_run, prints-one}
 use Rattle.termwiz_surface.proofs.ScrolledOff.{behind-run}
 use Rattle.termwiz_surface.proofs.surface.Surface.print_first.Goals as goal
@@ -66,8 +66,8 @@ returns-then-not-is_empty-clause-scrolls g c =
     let cut = c.split_narrow_run.ensures in
     let not_empty : length run ≢ 0 = eqb-false (length run) 0 (sym c.is_empty.ensures ∙ c.if-not-is_empty.true) in
     let narrow : AreNarrow f run = subst (λ (s : SurfaceValue _). AreNarrow (measure g.W.Widths.width_of s.widths) run) c.self.view_is cut.narrow in
-    behind-run f (λ b. b ∷ []) plain_cell set_run length plain_run run (screen_of old) (screen_of c.print_run.new.self) (graphemes true c.args.text.now) (graphemes true c.split_narrow_run.result.1.now)
-    (omega (arith, not_empty)) (omega (arith, cut.within, c.run_limit.ensures.fits)) (AllPrint-plain f old.pen run cut.plain narrow) cut.graphemes_are c.in_ok-print_run.ensures.ok.screen_is
+    behind-run f (λ b. b ∷ []) plain_cell set_run length plain_run run (screen_of old) (screen_of c.print_run.new.self) (kept_of old) (kept_of c.print_run.new.self) (graphemes true c.args.text.now) (graphemes true c.split_narrow_run.result.1.now)
+    (omega (arith, not_empty)) (omega (arith, cut.within, c.run_limit.ensures.fits)) (AllPrint-plain f old.pen run cut.plain narrow) cut.graphemes_are c.in_ok-print_run.ensures.ok.screen_is c.in_ok-print_run.ensures.ok.kept_is
 
 pub returns-then-not-is_empty-2-clause-scrolls : goal.returns-then-not-is_empty-2-clause-scrolls
 returns-then-not-is_empty-2-clause-scrolls g c =
@@ -79,5 +79,5 @@ returns-then-not-is_empty-2-clause-scrolls g c =
     let is_text : IsUtf8 run = search rules in
     let some : 0 < length letters = some_letters run (eqb-false (length run) 0 (sym c.is_empty-then-begins_letters.ensures ∙ c.if-not-is_empty-2.true)) (length-letters run is_text cut.letters) in
     let wide : AreWide f letters = subst (λ (s : SurfaceValue _). AreWide (measure g.W.Widths.width_of s.widths) letters) c.self-then-begins_letters.view_is cut.wide in
-    behind-run f encode_utf8 letter_cell set_letters (λ ls. 2 * length ls) letter_run letters (screen_of old) (screen_of c.print_letters.new.self) (graphemes true c.args.text.now) (graphemes true c.split_wide_run.result.1.now)
-    some (omega (arith, cut.within, c.run_limit-then-begins_letters.ensures.fits)) (AllPrint-letters f old.pen letters cut.letters wide) cut.graphemes_are c.in_ok-print_letters.ensures.ok.screen_is
+    behind-run f encode_utf8 letter_cell set_letters (λ ls. 2 * length ls) letter_run letters (screen_of old) (screen_of c.print_letters.new.self) (kept_of old) (kept_of c.print_letters.new.self) (graphemes true c.args.text.now) (graphemes true c.split_wide_run.result.1.now)
+    some (omega (arith, cut.within, c.run_limit-then-begins_letters.ensures.fits)) (AllPrint-letters f old.pen letters cut.letters wide) cut.graphemes_are c.in_ok-print_letters.ensures.ok.screen_is c.in_ok-print_letters.ensures.ok.kept_is

@@ -11,7 +11,8 @@ use Rattle.termwiz_surface.specs.Touching.{touched_by}
 use Rattle.termwiz_cell.proofs.Graphemes.{graphemes-nothing}
 use Rattle.termwiz_surface.proofs.Printing.{screen-left, kept-left, touched-left}
 use Rattle.termwiz_surface.proofs.RowNumbers.{some-all, some-more, some-none}
-use Rattle.termwiz_surface.proofs.ScrolledOff.{leaves-all, leaves-then, off-leaves}
+use Rattle.termwiz_line.proofs.Fills.{on_err}
+use Rattle.termwiz_surface.proofs.ScrolledOff.{begins-then, leaves-all, leaves-then, off-leaves}
 use Rattle.termwiz_surface.proofs.surface.Surface.print_text_scrolling.Goals as goal
 
 pub pieces-init : goal.pieces-init
@@ -24,7 +25,8 @@ pieces-init g c =
       rows = some-none (touched_by f (screen_of c.args.self.now) (graphemes true c.args.text.now)) c.args.self.now;
       screen = search rules;
       kept = search rules;
-      leaves = leaves-all c.args.self.now.width (left_by f (screen_of c.args.self.now) (graphemes true c.args.text.now)) c.args.scrollback.now.lines.items;
+      leaves = leaves-all c.args.self.now.width (left_by f (screen_of c.args.self.now) (kept_of c.args.self.now) (graphemes true c.args.text.now)) c.args.scrollback.now.lines.items;
+      spare = omega arith;
     }
 
 pub pieces-preserved : goal.pieces-preserved
@@ -46,6 +48,7 @@ pieces-preserved g c =
       screen = screen-left _ c.pieces.self c.print_first_scrolling.new.self c.pieces.rest.now c.in_ok-rest.rest.now some ∙ before.screen;
       kept = kept-left _ c.pieces.self c.print_first_scrolling.new.self c.pieces.rest.now c.in_ok-rest.rest.now some ∙ before.kept;
       leaves = leaves-then c.args.self.now.width _ _ _ _ _ _ before.leaves (rw (← before.frame.width, ← before.frame.widths) c.in_ok-rest.ensures.scrolls);
+      spare = omega (arith, before.spare, c.print_first_scrolling.ensures.spare);
     }
 
 none_left : (t : List ℕ) → true ≡ (length t == 0) → t ≡ []
@@ -74,4 +77,9 @@ pub returns-clause-scrolls : goal.returns-clause-scrolls
 returns-clause-scrolls g c =
     let f : List ℕ → ℕ = measure g.W.Widths.width_of c.args.self.now.widths in
     let empty : c.pieces.rest.now ≡ [] = none_left c.pieces.rest.now c.pieces-test.ensures in
-    off-leaves c.args.self.now.width _ _ _ _ (ap (left_by f (screen_of c.pieces.self)) (ap (graphemes true) empty ∙ graphemes-nothing)) c.pieces.invariant.leaves
+    off-leaves c.args.self.now.width _ _ _ _ (ap (left_by f (screen_of c.pieces.self) (kept_of c.pieces.self)) (ap (graphemes true) empty ∙ graphemes-nothing)) c.pieces.invariant.leaves
+
+pub returns-in_err-rest-clause-kept : goal.returns-in_err-rest-clause-kept
+returns-in_err-rest-clause-kept g c =
+    let before = c.pieces.invariant in
+    on_err _ (begins-then c.args.self.now.width _ _ _ _ _ before.leaves (rw (← before.frame.width, ← before.frame.widths) c.in_err-rest.ensures.kept))

@@ -1,8 +1,9 @@
-use Rattle.std.proofs.Common.{◌≡◌, fold, length, true}
+use Rattle.std.proofs.Common.{◌≡◌, ◌≤◌, fold, length, true}
 use Rattle.std.specs.Str.{IsUtf8}
 use Rattle.unicode_segmentation.specs.Grapheme.{graphemes}
 use Rattle.termwiz_cell.specs.Measure.{measure}
 use Rattle.termwiz_screen.specs.Print.{print, print_one, kept_after, print_kept}
+use Rattle.termwiz_surface.specs.Scrollback.{spare_lines}
 use Rattle.termwiz_surface.specs.ScrolledOff.{LeavesRows, left_by}
 use Rattle.termwiz_surface.specs.Surface.{SameFrame, screen_of, kept_of}
 use Rattle.termwiz_surface.specs.Touching.{touched_by}
@@ -20,7 +21,8 @@ invariant-pieces g l =
       rows : MarksSome (touched_by f (screen_of l.fn.self) (graphemes true l.text)) (touched_by f (screen_of l.self) (graphemes true l.rest)) l.fn.self l.self;
       screen : fold (print_one f) (screen_of l.self) (graphemes true l.rest) ≡ print f (screen_of l.fn.self) l.text;
       kept : kept_after f (screen_of l.self) (kept_of l.self) (graphemes true l.rest) ≡ print_kept f (screen_of l.fn.self) l.text (kept_of l.fn.self);
-      leaves : LeavesRows l.fn.self.width (left_by f (screen_of l.fn.self) (graphemes true l.text)) (left_by f (screen_of l.self) (graphemes true l.rest)) l.fn.scrollback.lines.items l.scrollback.lines.items;
+      leaves : LeavesRows l.fn.self.width (left_by f (screen_of l.fn.self) (kept_of l.fn.self) (graphemes true l.text)) (left_by f (screen_of l.self) (kept_of l.self) (graphemes true l.rest)) l.fn.scrollback.lines.items l.scrollback.lines.items;
+      spare : spare_lines l.scrollback ≤ spare_lines l.fn.scrollback;
     }
 
 abbrev pub decreases-pieces : goal.decreases-pieces

@@ -5,16 +5,14 @@ use Rattle.termwiz_cell.specs.CellValue.{CellValue, blank}
 use Rattle.termwiz_cell.specs.Measure.{measure}
 use Rattle.termwiz_line.specs.LineFlags.{no_flags}
 use Rattle.termwiz_line.specs.LineValue.{LineValue}
-use Rattle.termwiz_line.specs.Row.{row_of}
-use Rattle.termwiz_screen.specs.Screen.{row_at}
 use Rattle.termwiz_screen.specs.ScreenValue.{cells_of, numberless}
 use Rattle.termwiz_screen.specs.Sides.{row_flags}
-use Rattle.termwiz_screen.proofs.Lines.{cells-set, length-cells_of, row-read}
+use Rattle.termwiz_screen.proofs.Lines.{cells-set, length-cells_of}
 use Rattle.termwiz_screen.proofs.RowChanges.Scrolled.{vectors-set}
-use Rattle.termwiz_surface.specs.ScrolledOff.{ScrollsOff}
-use Rattle.termwiz_surface.specs.Surface.{SurfaceValue, IsSound, screen_of}
+use Rattle.termwiz_surface.specs.ScrolledOff.{ScrollsOff, ShownRow, line_shown, row_shown}
+use Rattle.termwiz_surface.specs.Surface.{SurfaceValue, IsSound, kept_of, screen_of}
 use Rattle.termwiz_surface.proofs.RowNumbers.{marks-one, set-outside}
-use Rattle.termwiz_surface.proofs.ScrolledOff.{IsSound-taken, lengths-set, rows-set}
+use Rattle.termwiz_surface.proofs.ScrolledOff.{IsSound-taken, lengths-set, rows-set, shown-read}
 use Rattle.termwiz_surface.proofs.surface.Surface.take_row.Goals as goal
 
 pub invariant_of-self : goal.invariant_of-self
@@ -62,10 +60,10 @@ returns-clause-moves g c =
     let inside : c.args.row < c.self.inside.height = subst (λ (s : SurfaceValue _). c.args.row < s.height) (sym c.self.view_is) c.requires in
     let old_lines : c.blank_row.new.self.lines.items ≡ c.args.scrollback.now.lines.items = (λ i. (c.in_ok-blank.ensures.kept i).items) ∙ c.reserve.ensures.items in
     let there : c.args.row < length items = omega (arith, inside, c.self.inside.rows.ok.0, c.self.invariant.0.full, length-cells_of items) in
-    subst (λ (s : SurfaceValue _). ScrollsOff s.width (row_at (screen_of s).rows c.args.row ∷ []) c.args.scrollback.now.lines.items c.push_back_reserved.new.self.items) c.self.view_is (record {
+    subst (λ (s : SurfaceValue _). ScrollsOff s.width (row_shown (screen_of s) (kept_of s) c.args.row ∷ []) c.args.scrollback.now.lines.items c.push_back_reserved.new.self.items) c.self.view_is (record {
       lines = c.replace-line.result ∷ [];
       behind = c.push_back_reserved.ensures.items ∙ ap (λ (ls : List LineValue). ls ++ c.replace-line.result ∷ []) old_lines;
-      rows_are = ap (λ (l : LineValue). row_of w l.cells ∷ []) c.replace-line.ensures.value ∙ ap (λ (r : List CellValue). r ∷ []) (sym (row-read w items c.args.row c.index_mut.result.now there c.index_mut.ensures.value));
+      rows_are = ap (λ (r : ShownRow). r ∷ []) (shown-read w items c.args.row c.index_mut.result.now there c.index_mut.ensures.value ∙ sym (ap (line_shown w) c.replace-line.ensures.value));
     })
 
 pub returns-clause-sound : goal.returns-clause-sound

@@ -1,6 +1,10 @@
-use Rattle.std.proofs.Common.{◌<◌, arith}
+use Rattle.std.proofs.Common.{◌<◌, List, arith, subst, sym}
 use Rattle.termwiz_cell.specs.Measure.{measure}
-use Rattle.termwiz_surface.proofs.ScrolledOff.{taken-lines, taken-more}
+use Rattle.termwiz_line.specs.LineValue.{LineValue}
+use Rattle.termwiz_line.proofs.Fills.{on_err}
+use Rattle.termwiz_surface.specs.ScrolledOff.{BeginsRows, first_rows}
+use Rattle.termwiz_surface.specs.Surface.{screen_of, kept_of}
+use Rattle.termwiz_surface.proofs.ScrolledOff.{begins-first, taken-lines, taken-more}
 use Rattle.termwiz_surface.proofs.surface.Surface.take_rows.Goals as goal
 
 pub loop-row-preserved : goal.loop-row-preserved
@@ -12,4 +16,13 @@ loop-row-preserved g c =
     record {
       taken = taken-more f c.args.self.now c.loop-row.self c.take_row.new.self c.loop-row.row row.sound inside before.taken row.ok;
       lines = taken-lines f c.args.self.now c.loop-row.self c.take_row.new.self c.loop-row.row row.sound inside before.taken c.args.scrollback.now.lines.items c.loop-row.scrollback.lines.items c.take_row.new.scrollback.lines.items before.lines row.moves;
+      spare = omega (arith, before.spare, c.take_row.ensures.spare);
     }
+
+pub returns-in_err-take_row-clause-kept : goal.returns-in_err-take_row-clause-kept
+returns-in_err-take_row-clause-kept g c =
+    let s = screen_of c.args.self.now in
+    let k = kept_of c.args.self.now in
+    let u : List LineValue = c.args.scrollback.now.lines.items in
+    on_err _ (subst (BeginsRows c.args.self.now.width (first_rows s k c.args.count) u) (sym c.in_err-take_row.ensures.kept)
+    (begins-first c.args.self.now.width s k c.loop-row.row c.args.count u c.loop-row.scrollback.lines.items (omega arith) c.loop-row.invariant.lines))

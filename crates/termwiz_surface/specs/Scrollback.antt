@@ -1,0 +1,7 @@
+-- What contracts see of a scrollback beside its lines.
+use Rattle.std.specs.Prelude.{ℕ, vec_len}
+use Rattle.termwiz_surface.specs.declared.scrollback.Scrollback.{Scrollback}
+
+-- of how many removed lines the memory is kept for new rows
+abbrev pub spare_lines : Scrollback → ℕ
+spare_lines s = vec_len s.spare

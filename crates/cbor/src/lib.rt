@@ -16,6 +16,6 @@ mod reader;
 pub use encoding::{put_array, put_bool, put_null, put_signed, put_text, put_unsigned};
 pub use error::{FaultKind, ReadError};
 pub use kind::Kind;
-pub use len::{array_len, signed_len, text_len, unsigned_len};
+pub use len::unsigned_len;
 pub use more_bytes::{beginnings, decided};
 pub use reader::{Reader, kinds};

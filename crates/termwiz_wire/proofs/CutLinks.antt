@@ -47,16 +47,16 @@ pub record IsEnd (bytes rest : List ℕ) : Type 0 where
   pub parts : bytes ≡ front ++ rest
   pub fits : IsBytes rest
 
-record Ends {A : Type 0} (read : List ℕ → Result (A × List ℕ) Stop) : Type 0 where
-  leaves : (bytes : List ℕ) (x : A × List ℕ) → IsBytes bytes → read bytes ≡ Ok x → IsEnd bytes x.1
+pub record Ends {A : Type 0} (read : List ℕ → Result (A × List ℕ) Stop) : Type 0 where
+  pub leaves : (bytes : List ℕ) (x : A × List ℕ) → IsBytes bytes → read bytes ≡ Ok x → IsEnd bytes x.1
 
 end_of : (bytes text rest : List ℕ) → Takes bytes text rest → IsEnd bytes rest
 end_of bytes text rest t = record { front = text; parts = t.parts; fits = t.rest_fits }
 
-end_then : (bytes rest after : List ℕ) → IsEnd bytes rest → IsEnd rest after → IsEnd bytes after
+pub end_then : (bytes rest after : List ℕ) → IsEnd bytes rest → IsEnd rest after → IsEnd bytes after
 end_then bytes rest after a b = record { front = a.front ++ b.front; parts = a.parts ∙ ap (λ (t : List ℕ). a.front ++ t) b.parts ∙ sym (append_assoc a.front b.front after); fits = b.fits }
 
-then_ends : {A B : Type 0} {read : List ℕ → Result (A × List ℕ) Stop} (f : A × List ℕ → Result (B × List ℕ) Stop) → Ends read → ((a : A) → Ends (λ rest. f (a, rest))) → Ends (λ bytes. read bytes >>= f)
+pub then_ends : {A B : Type 0} {read : List ℕ → Result (A × List ℕ) Stop} (f : A × List ℕ → Result (B × List ℕ) Stop) → Ends read → ((a : A) → Ends (λ rest. f (a, rest))) → Ends (λ bytes. read bytes >>= f)
 then_ends {read = read} f first then = record {
   leaves = λ bytes x fits e.
       let a = bind_ok (read bytes) f x e in
@@ -64,7 +64,7 @@ then_ends {read = read} f first then = record {
       end_then bytes a.0.1 x.1 l ((then a.0.0).leaves a.0.1 x l.fits a.2);
 }
 
-array_of_ends : {B : Type 0} (room n : ℕ) (f : List ℕ → Result (B × List ℕ) Stop) → Ends f → Ends (λ bytes. array_of_at room n bytes >>= f)
+pub array_of_ends : {B : Type 0} (room n : ℕ) (f : List ℕ → Result (B × List ℕ) Stop) → Ends f → Ends (λ bytes. array_of_at room n bytes >>= f)
 array_of_ends room n f then = record {
   leaves = λ bytes x fits e.
       let a = bind_ok (array_of_at room n bytes) f x e in
@@ -72,17 +72,17 @@ array_of_ends room n f then = record {
       end_then bytes a.0 x.1 (end_of bytes _ a.0 t) (then.leaves a.0 x t.rest_fits a.2);
 }
 
-done_ends : {A : Type 0} {a : A} → Ends (λ bytes. Ok (a, bytes))
+pub done_ends : {A : Type 0} {a : A} → Ends (λ bytes. Ok (a, bytes))
 done_ends {A = A} {a = a} = record { leaves = λ bytes x fits e. subst (λ (y : A × List ℕ). IsEnd bytes y.1) (ok_is {A = A × List ℕ} (a, bytes) x e) (record { front = []; parts = refl; fits = fits }) }
 
-refused_ends : {A : Type 0} (f : FaultKind) (room : ℕ) → Ends {A = A} (λ bytes. refused f room bytes)
+pub refused_ends : {A : Type 0} (f : FaultKind) (room : ℕ) → Ends {A = A} (λ bytes. refused f room bytes)
 refused_ends f room = record { leaves = λ bytes x fits e. absurd cc }
 
-either_ends : {A : Type 0} (b : Bool) (f g : List ℕ → Result (A × List ℕ) Stop) → Ends f → Ends g → Ends (λ bytes. cond b (f bytes) (g bytes))
+pub either_ends : {A : Type 0} (b : Bool) (f g : List ℕ → Result (A × List ℕ) Stop) → Ends f → Ends g → Ends (λ bytes. cond b (f bytes) (g bytes))
 either_ends true f g x y = x
 either_ends false f g x y = y
 
-kept_ends : {A : Type 0} {read : List ℕ → Result (A × List ℕ) Stop} (f : FaultKind) (room : ℕ) (rule : A → Bool) → Ends read → Ends (λ bytes. read bytes >>= λ n. cond (rule n.0) (Ok n) (refused f room bytes))
+pub kept_ends : {A : Type 0} {read : List ℕ → Result (A × List ℕ) Stop} (f : FaultKind) (room : ℕ) (rule : A → Bool) → Ends read → Ends (λ bytes. read bytes >>= λ n. cond (rule n.0) (Ok n) (refused f room bytes))
 kept_ends {A = A} {read = read} f room rule first = record {
   leaves = λ bytes x fits e.
       let a = bind_ok (read bytes) (λ n. cond (rule n.0) (Ok n) (refused f room bytes)) x e in
@@ -90,10 +90,10 @@ kept_ends {A = A} {read = read} f room rule first = record {
       subst (λ (y : A × List ℕ). IsEnd bytes y.1) g.1 (first.leaves bytes a.0 fits a.1);
 }
 
-unsigned_ends : (room : ℕ) → Ends (unsigned_at room)
+pub unsigned_ends : (room : ℕ) → Ends (unsigned_at room)
 unsigned_ends room = record { leaves = λ bytes x fits e. end_of bytes _ x.1 (unsigned_takes room bytes x fits e).0 }
 
-array_ends : (room : ℕ) → Ends (array_at room)
+pub array_ends : (room : ℕ) → Ends (array_at room)
 array_ends room = record { leaves = λ bytes x fits e. end_of bytes _ x.1 (array_takes room bytes x fits e).0 }
 
 below_ends : (room limit : ℕ) → Ends (λ bytes. below_at room limit bytes)
@@ -102,10 +102,10 @@ below_ends room limit = record { leaves = λ bytes x fits e. end_of bytes _ x.1 
 boolean_ends : (room : ℕ) → Ends (boolean_at room)
 boolean_ends room = record { leaves = λ bytes x fits e. end_of bytes _ x.1 (boolean_takes room bytes x fits e) }
 
-list_ends : (room : ℕ) → Ends (list_at room)
+pub list_ends : (room : ℕ) → Ends (list_at room)
 list_ends room = record { leaves = λ bytes x fits e. end_of bytes _ x.1 (list_takes room bytes x fits e).0 }
 
-text_ends : (room : ℕ) → Ends (text_at room)
+pub text_ends : (room : ℕ) → Ends (text_at room)
 text_ends room = record { leaves = λ bytes x fits e. end_of bytes _ x.1 (text_takes room bytes x fits e).0 }
 
 color_ends : (room : ℕ) → Ends (color_at room)
@@ -119,11 +119,11 @@ style_ends : (room : ℕ) → Ends (style_at room)
 unfolding style_at
 style_ends room = kept_ends faults.Range room (λ n. are_small (split fields n)) (below_ends room style_limit)
 
-count_ends : (room : ℕ) → Ends (count_at room)
+pub count_ends : (room : ℕ) → Ends (count_at room)
 unfolding count_at
 count_ends room = kept_ends faults.Type room (λ n. ltb 1 n && ltb n 5) (array_ends room)
 
-change_kind_ends : (room count : ℕ) → Ends (λ bytes. change_kind_at room count bytes)
+pub change_kind_ends : (room count : ℕ) → Ends (λ bytes. change_kind_at room count bytes)
 unfolding change_kind_at
 change_kind_ends room count = kept_ends faults.Type room (λ kind. has_count kind count) (unsigned_ends room)
 
@@ -315,7 +315,7 @@ by_kind measure room rows count kind bytes b x e begun =
     (λ is read. rw is (before_is room bytes b x read begun))
     (λ none. absurd cc))
 
-change_by_parts : (measure : List ℕ → ℕ) (room : ℕ) (rows : Option ℕ) (bytes : List ℕ) (count kind : ℕ × List ℕ) → count_at room bytes ≡ Ok count → change_kind_at room count.0 count.1 ≡ Ok kind → change_at measure room rows bytes ≡ change_by measure room rows count.0 kind.0 kind.1
+pub change_by_parts : (measure : List ℕ → ℕ) (room : ℕ) (rows : Option ℕ) (bytes : List ℕ) (count kind : ℕ × List ℕ) → count_at room bytes ≡ Ok count → change_kind_at room count.0 count.1 ≡ Ok kind → change_at measure room rows bytes ≡ change_by measure room rows count.0 kind.0 kind.1
 unfolding change_at
 change_by_parts measure room rows bytes count kind c k = rw (c, k) refl
 
@@ -490,19 +490,19 @@ read_failed room part bytes read_errors.Measure more left rest other reads = rea
 read_failed room part bytes read_errors.Memory more left rest other reads = reads
 
 -- what is cut has no value, and no fault but that
-cut_value : {Y : Type 0} (r : Result Y Stop) (y : Y) → IsCut r → r ≡ Ok y → ⊥
+pub cut_value : {Y : Type 0} (r : Result Y Stop) (y : Y) → IsCut r → r ≡ Ok y → ⊥
 cut_value r y cut is = let bad : failed cut.stop ≡ Ok y = sym cut.is ∙ is in cc
 
-cut_fault : {Y : Type 0} (r : Result Y Stop) (f : FaultKind) (left : ℕ) → IsCut r → r ≡ Err (record { fault = f; left = left }) → f ≡ Truncated
+pub cut_fault : {Y : Type 0} (r : Result Y Stop) (f : FaultKind) (left : ℕ) → IsCut r → r ≡ Err (record { fault = f; left = left }) → f ≡ Truncated
 cut_fault {Y = Y} r f left cut is =
     let both : failed {A = Y} cut.stop ≡ failed (record { fault = f; left = left }) = sym cut.is ∙ is in
     let same : cut.stop ≡ record { fault = f; left = left } = cc in
     ap (λ (s : Stop). s.fault) (sym same) ∙ cut.cut
 
-other_fault : (f : FaultKind) → f ≡ Truncated → f ≢ Truncated → ⊥
+pub other_fault : (f : FaultKind) → f ≡ Truncated → f ≢ Truncated → ⊥
 other_fault f is other = other is
 
-apart : {Y : Type 0} (f : FaultKind) (left : ℕ) (r : Result Y Stop) (y : Y) → r ≡ Err (record { fault = f; left = left }) → r ≡ Ok y → ⊥
+pub apart : {Y : Type 0} (f : FaultKind) (left : ℕ) (r : Result Y Stop) (y : Y) → r ≡ Err (record { fault = f; left = left }) → r ≡ Ok y → ⊥
 apart {Y = Y} f left r y stops is = let bad : failed {A = Y} (record { fault = f; left = left }) ≡ Ok y = sym stops ∙ is in cc
 
 -- the params of a link that is cut are read up to the item that is
@@ -519,7 +519,7 @@ cut_read room part bytes (Err read_errors.Measure) more left rest reads cut some
 cut_read room part bytes (Err read_errors.Memory) more left rest reads cut some = absurd (some refl)
 
 -- no link's params have begun
-pub unbegun : (e : ReadError) (left : ℕ) (r : Result (LinkPart × List ℕ) Stop) → e ≢ read_errors.Memory → Stops left e r → (x : LinkPart × List ℕ) → r ≢ Ok x
+pub unbegun : {Y : Type 0} (e : ReadError) (left : ℕ) (r : Result Y Stop) → e ≢ read_errors.Memory → Stops left e r → (x : Y) → r ≢ Ok x
 unbegun read_errors.Truncated left r other stops x is = apart Truncated left r x stops is
 unbegun read_errors.Version left r other stops x is = apart faults.Version left r x stops is
 unbegun read_errors.Type left r other stops x is = apart faults.Type left r x stops is

@@ -89,18 +89,18 @@ columns_done wide count i size cs total le so_far =
 
 -- ---- the same runs
 
-are_none : (room : ℕ) (bytes : List ℕ) → are_at room [] bytes ≡ Ok (true, bytes)
+pub are_none : (room : ℕ) (bytes : List ℕ) → are_at room [] bytes ≡ Ok (true, bytes)
 unfolding are_at
 are_none room bytes = refl
 
-abbrev after_same : ℕ → List Run → Bool × List ℕ → Result (Bool × List ℕ) Stop
+abbrev pub after_same : ℕ → List Run → Bool × List ℕ → Result (Bool × List ℕ) Stop
 after_same room rs is = cond is.0 (are_at room rs is.1) (ok false is.1)
 
 are_some : (room : ℕ) (r : Run) (rs : List Run) (bytes : List ℕ) → are_at room (r ∷ rs) bytes ≡ (is_run_at room r bytes >>= after_same room rs)
 unfolding are_at
 are_some room r rs bytes = refl
 
-are_next : (room : ℕ) (left rs : List Run) (r : Run) (bytes : List ℕ) (read : Result (Bool × List ℕ) Stop) → left ≡ r ∷ rs → is_run_at room r bytes ≡ read → are_at room left bytes ≡ (read >>= after_same room rs)
+pub are_next : (room : ℕ) (left rs : List Run) (r : Run) (bytes : List ℕ) (read : Result (Bool × List ℕ) Stop) → left ≡ r ∷ rs → is_run_at room r bytes ≡ read → are_at room left bytes ≡ (read >>= after_same room rs)
 are_next room left rs r bytes read e is =
     ap (λ (x : List Run). are_at room x bytes) e ∙ are_some room r rs bytes ∙ ap (λ (x : Result (Bool × List ℕ) Stop). x >>= after_same room rs) is
 
@@ -125,11 +125,11 @@ are_done room left bytes total e so_far = sym so_far ∙ ap (λ (x : List Run). 
 
 -- ---- runs
 
-runs_none : (room : ℕ) (last : Run) (needed : Bool) (cs bytes : List ℕ) → runs_at room last needed cs zero bytes ≡ Ok (needed && eqb (length cs) 0, bytes)
+pub runs_none : (room : ℕ) (last : Run) (needed : Bool) (cs bytes : List ℕ) → runs_at room last needed cs zero bytes ≡ Ok (needed && eqb (length cs) 0, bytes)
 unfolding runs_at
 runs_none room last needed cs bytes = refl
 
-runs_some : (room : ℕ) (last : Run) (needed : Bool) (cs : List ℕ) (n : ℕ) (bytes : List ℕ) → runs_at room last needed cs (suc n) bytes ≡ (run_at room last cs bytes >>= λ r. runs_at room r.0 (needed || stands_out r.0) (drop (r.0.count * r.0.characters) cs) n r.1)
+pub runs_some : (room : ℕ) (last : Run) (needed : Bool) (cs : List ℕ) (n : ℕ) (bytes : List ℕ) → runs_at room last needed cs (suc n) bytes ≡ (run_at room last cs bytes >>= λ r. runs_at room r.0 (needed || stands_out r.0) (drop (r.0.count * r.0.characters) cs) n r.1)
 unfolding runs_at
 runs_some room last needed cs n bytes = refl
 
@@ -159,10 +159,10 @@ runs_done room last needed cs count i bytes total le so_far =
 
 -- ---- the rules of a text's pieces
 
-abbrev whole : ℕ → List ℕ → Bool × List ℕ → Result (List ℕ) Stop
+abbrev pub whole : ℕ → List ℕ → Bool × List ℕ → Result (List ℕ) Stop
 whole room bytes all = cond all.0 (Ok all.1) (refused Range room bytes)
 
-cut_threes : (room : ℕ) (text bytes : List ℕ) → cut_at room text bytes ≡ (threes_at room bytes >>= λ n. runs_at room no_run false (chars text) (n.0 / 3) n.1 >>= whole room bytes)
+pub cut_threes : (room : ℕ) (text bytes : List ℕ) → cut_at room text bytes ≡ (threes_at room bytes >>= λ n. runs_at room no_run false (chars text) (n.0 / 3) n.1 >>= whole room bytes)
 unfolding cut_at
 cut_threes room text bytes = refl
 

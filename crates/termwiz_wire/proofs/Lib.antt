@@ -1,5 +1,4 @@
 pub mod Runs
-pub mod Lengths
 pub mod Ascii
 pub mod Steps
 pub mod Params
@@ -22,7 +21,9 @@ pub mod Widening
 pub mod MoreBytes
 pub mod AnswerHeads
 pub mod CutLinks
+pub mod CutTexts
 pub mod Resuming
 pub mod PastLimits
 pub mod LineFeeds
 pub mod RepaintWork
+mod Encoded

@@ -18,6 +18,7 @@ use Rattle.termwiz_wire.specs.Pieces.{runs, stands_out, needs_pieces}
 use Rattle.termwiz_wire.specs.Cuts.{refused, is_rest_at, is_run_at, are_at, same_at, is_count, are_characters, are_columns, kept_at, run_at, no_run, runs_at, threes_at, cut_at, others_at, pieces_at, pieces_by}
 use Rattle.termwiz_wire.specs.Decoding.{which_at, palette_at, rgb_at, rgb_palette_at, color_by, color_at, split, are_small, style_limit, style_at, ascends, key_at, param_at, params_at, link_at, optional_link_by, optional_link_at, attributes_at, attribute_change_by, attribute_change_at, position_by, position_at, place_at, is_on, region_size_at, scroll_at, printed_at, change_by, count_at, has_count, change_kind_at, change_at}
 use Rattle.termwiz_wire.specs.CutLinks.{LinkPart, before_link_at, before_link_by, link_alone_at, link_begun_at, link_item_at, link_item_by, link_part_at, param_key_at}
+use Rattle.termwiz_wire.specs.CutTexts.{with_pieces_at}
 use Rattle.termwiz_wire.specs.Answers.{version_at, body_at, opened_at, source_at, size_at, height_at, number_at, asked_at, ask_in, head_at, halted, next_at, each_at, changes_in, answer_in}
 use Rattle.termwiz_wire.specs.MoreBytes.{halt}
 use Rattle.termwiz_wire.specs.Screens.{is_past}
@@ -158,11 +159,11 @@ is_rest_reads : (r : Run) → Reads fault left (λ room bytes. is_rest_at room r
 unfolding is_rest_at
 is_rest_reads r = bind _ unsigned_reads (λ size. choose (eqb size r.characters) _ _ (bind _ unsigned_reads (λ columns. done)) done)
 
-is_run_reads : (r : Run) → Reads fault left (λ room bytes. is_run_at room r bytes)
+pub is_run_reads : (r : Run) → Reads fault left (λ room bytes. is_run_at room r bytes)
 unfolding is_run_at
 is_run_reads r = bind _ unsigned_reads (λ count. choose (eqb count r.count) _ _ (is_rest_reads r) done)
 
-are_reads : (rs : List Run) → Reads fault left (λ room bytes. are_at room rs bytes)
+pub are_reads : (rs : List Run) → Reads fault left (λ room bytes. are_at room rs bytes)
 unfolding are_at
 are_reads [] = done
 are_reads (r ∷ rs) = bind _ (is_run_reads r) (λ is. choose is _ _ (are_reads rs) done)
@@ -174,16 +175,16 @@ same_reads rs = fork (λ n. eqb n (3 * length rs)) (λ n room bytes. list_at roo
 kept_reads : (rule : ℕ → Bool) → Reads fault left (λ room bytes. kept_at room rule bytes)
 kept_reads rule = kept faults.Range (λ is. cc) rule unsigned_reads
 
-run_reads : (last : Run) (cs : List ℕ) → Reads fault left (λ room bytes. run_at room last cs bytes)
+pub run_reads : (last : Run) (cs : List ℕ) → Reads fault left (λ room bytes. run_at room last cs bytes)
 unfolding run_at
 run_reads last cs = bind _ (kept_reads (is_count cs)) (λ count. bind _ (kept_reads (are_characters cs count)) (λ size. bind _ (kept_reads (are_columns last cs count size)) (λ columns. done)))
 
-runs_reads : (last : Run) (needed : Bool) (cs : List ℕ) (n : ℕ) → Reads fault left (λ room bytes. runs_at room last needed cs n bytes)
+pub runs_reads : (last : Run) (needed : Bool) (cs : List ℕ) (n : ℕ) → Reads fault left (λ room bytes. runs_at room last needed cs n bytes)
 unfolding runs_at
 runs_reads last needed cs zero = done
 runs_reads last needed cs (suc n) = bind _ (run_reads last cs) (λ r. runs_reads r (needed || stands_out r) (drop (r.count * r.characters) cs) n)
 
-threes_reads : Reads fault left threes_at
+pub threes_reads : Reads fault left threes_at
 unfolding threes_at
 threes_reads = over (λ n room bytes. cond (eqb (n % 3) 0) (list_at room bytes) (refused faults.Type room bytes)) array_reads (λ n. choose (eqb (n % 3) 0) _ _ list_reads (refused_reads faults.Type (λ is. cc)))
 
@@ -304,6 +305,12 @@ link_item_by_reads part (Some key) = bind _ text_reads (λ value. done)
 pub link_item_reads : (part : LinkPart) → Reads fault left (λ room bytes. link_item_at room part bytes)
 link_item_reads part = link_item_by_reads part part.key
 
+-- ---- texts that are cut
+
+pub with_pieces_reads : Reads fault behind with_pieces_at
+unfolding with_pieces_at
+with_pieces_reads = bind _ count_reads (λ count. bind _ (change_kind_reads count) (λ kind. choose (eqb kind 2 && eqb count 3) _ _ done_rest (refused_reads faults.Type (λ is. cc))))
+
 -- ---- the heads of answers
 
 version_reads : Reads fault behind version_at
@@ -385,3 +392,8 @@ stays_ok fe grow more r later y is stays = subst (λ (s : Result _ _). Stays fe 
 pub still : {A : Type 0} {read : ℕ → List ℕ → Result (A × List ℕ) Stop} → Reads fault left read → (room later : ℕ) (bytes near : List ℕ) (x : A × List ℕ) → length near + later ≡ room → read room bytes ≡ Ok x → read later (bytes ++ near) ≡ Ok (x.0, x.1 ++ near)
 still {read = read} reads room later bytes near x all is =
     stays_ok fault left near (read (length near + later) bytes) (read later (bytes ++ near)) x (ap (λ (n : ℕ). read n bytes) all ∙ is) (reads.stays later bytes near)
+
+-- so are bytes behind what has no value
+pub still_behind : {read : ℕ → List ℕ → Result (List ℕ) Stop} → Reads fault behind read → (room later : ℕ) (bytes near rest : List ℕ) → length near + later ≡ room → read room bytes ≡ Ok rest → read later (bytes ++ near) ≡ Ok (rest ++ near)
+still_behind {read = read} reads room later bytes near rest all is =
+    stays_ok fault behind near (read (length near + later) bytes) (read later (bytes ++ near)) rest (ap (λ (n : ℕ). read n bytes) all ∙ is) (reads.stays later bytes near)

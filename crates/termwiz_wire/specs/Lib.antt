@@ -13,5 +13,5 @@ pub mod Within
 pub mod Lent
 pub mod MoreBytes
 pub mod CutLinks
+pub mod CutTexts
 pub mod Resuming
-pub mod Lengths

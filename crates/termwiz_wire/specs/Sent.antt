@@ -1,5 +1,5 @@
 -- How answers and asks are encoded.
-use Rattle.std.specs.Prelude.{◌≡◌, ℕ, ◌<◌, ◌^◌, List, ◌++◌}
+use Rattle.std.specs.Prelude.{◌≡◌, ℕ, ◌-◌, ◌<◌, ◌≤◌, ◌^◌, Bool, true, false, List, ◌++◌, length}
 use Rattle.cbor.specs.Encoding.{unsigned, array}
 use Rattle.termwiz_surface.specs.Answer.{IsWellFormed}
 use Rattle.termwiz_wire.specs.Encoding.{changes}
@@ -17,6 +17,13 @@ answer measure s =
 -- the version, the source and the number
 unfoldable pub ask : Ask → List ℕ
 ask a = array 3 ++ unsigned 2 ++ unsigned a.source ++ unsigned a.number
+
+-- of bytes that are encoded, those that are no more than so many are appended, and of others
+-- nothing is
+abbrev pub EncodesWithin : List ℕ → ℕ → List ℕ → Bool → List ℕ → Type 0
+EncodesWithin bytes most before true after = (after ≡ before ++ bytes) × (length bytes ≤ most)
+EncodesWithin bytes most before false after =
+    (after ≡ before) × (most < length bytes) × (most < 2 ^ 64 - 1)
 
 -- what has an encoding: each answer of a program does, with the number of a source
 pub record IsSent (measure : List ℕ → ℕ) (s : SentAnswer) : Type 0 where

@@ -5,10 +5,12 @@ mod attributes;
 mod begun;
 mod changes;
 mod cut_links;
+mod cut_texts;
 mod cuts;
 mod halted;
 mod heads;
 mod links;
+mod other_runs;
 mod small;
 
 pub use answers::decode_answer;

@@ -6,8 +6,6 @@ mod links;
 mod small;
 mod texts;
 
-pub use answers::{encode_answer, encode_ask};
-pub(crate) use attributes::attribute_kind;
+pub use answers::{encode_answer, encode_answer_within, encode_ask};
 pub(crate) use changes::change_count;
 pub use changes::{encode_change, encode_changes};
-pub(crate) use small::style_number;

@@ -9,7 +9,6 @@
 mod decode;
 mod encode;
 mod fault;
-mod len;
 mod more_bytes;
 mod pieces;
 mod sent;
@@ -20,9 +19,8 @@ pub use decode::{
     Begun, Head, NoAnswer, decode_answer, decode_ask, decode_change, decode_changes, decode_head,
     decode_more,
 };
-pub use encode::{encode_answer, encode_ask, encode_change, encode_changes};
+pub use encode::{encode_answer, encode_answer_within, encode_ask, encode_change, encode_changes};
 pub use fault::{Fault, Limits, WireError};
-pub use len::encoded_len;
 pub use more_bytes::{answers, decided, stays};
 pub use sent::{Ask, LentAnswer, SentAnswer, SourceNo};
 pub use work::is_borne;

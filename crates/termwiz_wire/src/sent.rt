@@ -10,7 +10,7 @@ pub type SourceNo = usize;
 #[derive(Debug, Drop)]
 pub struct SentAnswer {
     pub source: SourceNo,
-    pub answer: Answer,
+    pub answer: Answer<'static>,
 }
 
 /// An answer whose texts are borrowed from the bytes that it was decoded from, and the source that

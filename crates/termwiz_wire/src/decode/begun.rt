@@ -1,27 +1,35 @@
 //! Answers whose bytes come in chunks.
 ghost use Rattle.std.specs.Option.{ForSome};
-ghost use Rattle.std.specs.Prelude.{◌≡◌, ◌++◌, ◌∷◌, ◌<◌, ◌≤◌, ◌^◌, [], IfOk, IfSome, List, None, OnOk};
-ghost use Rattle.std.specs.Prelude.{Some, drop, length, map, option_map, take, ℕ};
+ghost use Rattle.std.specs.Prelude.{◌≡◌, ◌++◌, ◌<◌, ◌≤◌, ◌^◌, IfOk, IfSome, List, None, OnOk};
+ghost use Rattle.std.specs.Prelude.{Option, Some, drop, length, map, option_map, string_bytes};
+ghost use Rattle.std.specs.Prelude.{take, ℕ};
 ghost use Rattle.cbor.specs.Decoding.{IsBytes, allowed};
 ghost use Rattle.termwiz_cell.specs.ChangeValue.{change_value};
 ghost use Rattle.termwiz_cell.specs.Measure.{measure};
 ghost use Rattle.termwiz_surface.specs.Surface.{IsSurfaceSize};
 ghost use Rattle.termwiz_surface.specs.Unlogged.{lent_value};
 ghost use Rattle.termwiz_wire.specs.Answers.{sent_of};
-ghost use Rattle.termwiz_wire.specs.CutLinks.{IsLinkPart, link_change, part_of};
+ghost use Rattle.termwiz_wire.specs.CutLinks.{IsLinkPart, part_of};
+ghost use Rattle.termwiz_wire.specs.Decoding.{change_at};
 ghost use Rattle.termwiz_wire.specs.Lent.{lent_answer};
-ghost use Rattle.termwiz_wire.specs.Resuming.{GoesOn, LeadsOn, Resumes, WithLink};
+ghost use Rattle.termwiz_wire.specs.Resuming.{AreWithin, BeginsChange, EndsIn, GoesOn};
+ghost use Rattle.termwiz_wire.specs.Resuming.{IsChangePart, IsCut, IsWith, LeadsOn, Resumes};
+ghost use Rattle.termwiz_wire.specs.Resuming.{WithNext, WithWhole, begun_with, change_part};
+ghost use Rattle.termwiz_wire.specs.Resuming.{cut_after};
 ghost use Rattle.termwiz_wire.specs.Sent.{answer};
 ghost use Rattle.termwiz_wire.specs.Work.{most_work, spent_on};
+ghost use Rattle.termwiz_wire.specs.declared.decode.begun.BegunChange.TheVariants.{Link, Text};
 ghost use Rattle.termwiz_wire.specs.declared.decode.begun.NoAnswer.TheVariants.{Failed};
 ghost use Rattle.termwiz_wire.specs.declared.fault.WireError.TheVariants.{Memory};
 
 use super::changes::{next_of, owned};
 use super::cut_links::{BegunLink, begin_link, link_change, read_params};
+use super::cut_texts::{BegunText, Places, ReadPieces, begin_text, read_pieces};
 use super::halted::Halted;
 use super::heads::{Head, head_of};
 use crate::fault::{Limits, WireError};
 use crate::sent::LentAnswer;
+use crate::work::spent_with;
 use cbor::{ReadError, Reader};
 use std::alloc::{AllocError, Global};
 use termwiz_cell::change::Change;
@@ -29,17 +37,25 @@ use termwiz_cell::emoji::Widths;
 use termwiz_surface::LentChange;
 
 /// What was decoded of an answer whose bytes are not all there: what it has before its changes, the
-/// first of them, and of a link that is cut the first of its params.
+/// first of them, and of a link or a text that is cut the first of its params or of its runs of
+/// pieces.
 #[derive(Debug, Drop)]
 pub struct Begun {
     head: Head,
     changes: Vec<Change>,
     // How much work these cost.
     spent: u128,
-    // What was decoded of the next one, if it is one of a link whose params have begun.
-    link: Option<BegunLink>,
+    // What was decoded of the next one, if it is one of a link whose params have begun, or of a
+    // text whose list of pieces has.
+    next: Option<BegunChange>,
     // How many bytes all that takes.
     taken: usize,
+}
+
+#[derive(Debug, Drop)]
+enum BegunChange {
+    Link(BegunLink),
+    Text(BegunText),
 }
 
 /// Why no answer was decoded.
@@ -54,8 +70,8 @@ pub enum NoAnswer {
 
 /// Decodes the answer at the front of the bytes as `decode_answer` does, from where an earlier call
 /// left it, which had the first of these bytes. Each change is decoded once, and what is cut again,
-/// but for a link: each of its params is decoded once. The answer borrows the texts that this call
-/// decodes.
+/// but for a link and the pieces of a text: each param and each run is decoded once, and the runs
+/// once more where one isn't the text's. The answer borrows the texts that this call decodes.
 pub fn decode_more<'a, W: Widths>(
     alloc: Global,
     widths: &W,
@@ -104,7 +120,7 @@ fn begin<'a, W: Widths>(
                 head,
                 changes: Vec::new(alloc),
                 spent: 0,
-                link: None,
+                next: None,
                 taken: len.saturating_sub(reader.bytes.len()),
             };
             resume_changes(alloc, widths, limits, begun, bytes)
@@ -139,59 +155,75 @@ fn resume<'a, W: Widths>(
     ensures named { IfOk result (λ x. 0 < x.0.source) }
     ensures sized { IfOk result (λ x. IsSurfaceSize x.0.width x.0.height) }
 {
-    let begun = with_link(alloc, limits, begun, bytes)?;
+    let begun = with_next(alloc, limits, begun, bytes)?;
     resume_changes(alloc, widths, limits, begun, bytes)
 }
 
 // Decodes the rest of the change that is begun, if one is.
-fn with_link(alloc: Global, limits: Limits, begun: Begun, bytes: &[u8]) -> Result<Begun, NoAnswer>
+fn with_next(alloc: Global, limits: Limits, begun: Begun, bytes: &[u8]) -> Result<Begun, NoAnswer>
+    requires size { (begun.head.width < 2 ^ 32) × (begun.head.height < 2 ^ 32) }
+    requires few { begun.spent ≤ most_work begun.head.width begun.head.height }
     requires taken { begun.taken ≤ length (take limits.bytes bytes.now) }
-    requires link { IfSome (option_map part_of begun.link) IsLinkPart }
+    requires next { IfSome (option_map change_part begun.next) (IsChangePart begun.taken) }
     ensures { (measure : List ℕ → ℕ) → LeadsOn measure limits begun bytes.now →
-        WithLink measure limits bytes.now result }
+        WithNext measure limits bytes.now result }
 {
     let Begun {
         head,
         changes,
         spent,
-        link,
+        next,
         taken,
     } = begun;
-    let Some(mut link) = link else {
-        return Ok(Begun {
-            head,
-            changes,
-            spent,
-            link: None,
-            taken,
-        });
+    let begun = Begun {
+        head,
+        changes,
+        spent,
+        next: None,
+        taken,
     };
+    match next {
+        None => Ok(begun),
+        Some(next) => match next {
+            BegunChange::Link(link) => with_link(alloc, limits, begun, link, bytes),
+            BegunChange::Text(text) => with_text(alloc, limits, begun, text, bytes),
+        },
+    }
+}
+
+// Decodes the rest of a change of a link.
+fn with_link(
+    alloc: Global,
+    limits: Limits,
+    begun: Begun,
+    link: BegunLink,
+    bytes: &[u8],
+) -> Result<Begun, NoAnswer>
+    requires taken { begun.taken ≤ length (take limits.bytes bytes.now) }
+    requires link { IsLinkPart (part_of link) }
+    ensures { (measure : List ℕ → ℕ) → LeadsOn measure limits (begun_with begun (Link link))
+        bytes.now → WithNext measure limits bytes.now result }
+{
+    let mut link = link;
     let mut reader = Reader::with_limit(bytes, limits.bytes);
     let hand = reader.rest();
-    reader.bytes = &hand[taken..];
+    reader.bytes = &hand[begun.taken..];
     match read_params(alloc, &mut link, &mut reader) {
         Ok(()) => {
             let taken = hand.len().saturating_sub(reader.bytes.len());
-            Ok(Begun {
-                head,
-                changes: with_change(alloc, changes, link)?,
-                spent,
-                link: None,
-                taken,
-            })
+            let change = link_change(alloc, link)?;
+            let spent = begun.spent;
+            Ok(with_change(begun, change, spent, taken)?)
         }
         Err(error) => match error {
-            ReadError::Truncated => Err(NoAnswer::Cut(Some(Begun {
-                head,
-                changes,
-                spent,
-                link: Some(link),
-                taken: hand.len().saturating_sub(reader.bytes.len()),
-            }))),
+            ReadError::Truncated => {
+                let taken = hand.len().saturating_sub(reader.bytes.len());
+                Err(NoAnswer::Cut(Some(up_to(begun, BegunChange::Link(link), taken))))
+            }
             _ => {
                 let halted = Halted {
                     error,
-                    change: Some(changes.len()),
+                    change: Some(begun.changes.len()),
                 };
                 let at = hand.len().saturating_sub(reader.bytes.len());
                 Err(NoAnswer::Failed(halted.located(at)))
@@ -200,18 +232,100 @@ fn with_link(alloc: Global, limits: Limits, begun: Begun, bytes: &[u8]) -> Resul
     }
 }
 
-// The changes with that of the link behind them.
-fn with_change(
+// Decodes the rest of a change of a text.
+fn with_text(
     alloc: Global,
-    changes: Vec<Change>,
-    link: BegunLink,
-) -> Result<Vec<Change>, AllocError>
-    ensures { IfOk result (λ x. map change_value x.items
-        ≡ map change_value changes.items ++ link_change (part_of link) (part_of link).params ∷ []) }
+    limits: Limits,
+    begun: Begun,
+    text: BegunText,
+    bytes: &[u8],
+) -> Result<Begun, NoAnswer>
+    requires size { (begun.head.width < 2 ^ 32) × (begun.head.height < 2 ^ 32) }
+    requires few { begun.spent ≤ most_work begun.head.width begun.head.height }
+    requires taken { begun.taken ≤ length (take limits.bytes bytes.now) }
+    requires within { AreWithin text.places begun.taken }
+    ensures { (measure : List ℕ → ℕ) → LeadsOn measure limits (begun_with begun (Text text))
+        bytes.now → WithNext measure limits bytes.now result }
 {
-    let mut changes = changes;
-    changes.push(link_change(alloc, link)?)?;
-    Ok(changes)
+    let BegunText { places, pieces } = text;
+    let mut reader = Reader::with_limit(bytes, limits.bytes);
+    let hand = reader.rest();
+    reader.bytes = &hand[begun.taken..];
+    match read_pieces(alloc, places, pieces, hand, &mut reader) {
+        Ok(read) => {
+            let taken = hand.len().saturating_sub(reader.bytes.len());
+            match read {
+                ReadPieces::Whole(text) => with_whole(alloc, begun, places, text, taken),
+                ReadPieces::Cut(pieces) => {
+                    let next = BegunChange::Text(BegunText { places, pieces });
+                    Err(NoAnswer::Cut(Some(up_to(begun, next, taken))))
+                }
+            }
+        }
+        Err(error) => {
+            let halted = Halted {
+                error,
+                change: Some(begun.changes.len()),
+            };
+            let at = hand.len().saturating_sub(reader.bytes.len());
+            Err(NoAnswer::Failed(halted.located(at)))
+        }
+    }
+}
+
+// What is begun with a text behind its changes, up to so many bytes, if the screen bears it.
+fn with_whole(
+    alloc: Global,
+    begun: Begun,
+    places: Places,
+    text: String,
+    taken: usize,
+) -> Result<Begun, NoAnswer>
+    requires size { (begun.head.width < 2 ^ 32) × (begun.head.height < 2 ^ 32) }
+    requires few { begun.spent ≤ most_work begun.head.width begun.head.height }
+    ensures { WithWhole begun (string_bytes text) places.change taken result }
+{
+    let change = LentChange::Owned(Change::Text(text));
+    match spent_with(Some(begun.head), begun.spent, &change) {
+        Some(spent) => Ok(with_change(begun, owned(alloc, change)?, spent, taken)?),
+        None => {
+            let halted = Halted {
+                error: ReadError::Limit,
+                change: Some(begun.changes.len()),
+            };
+            Err(NoAnswer::Failed(halted.located(places.change)))
+        }
+    }
+}
+
+// What is begun with one more change, up to so many bytes, where so much work is spent.
+fn with_change(begun: Begun, change: Change, spent: u128, taken: usize) -> Result<Begun, AllocError>
+    ensures { IfOk result (λ x. IsWith begun (change_value change) spent taken x) }
+{
+    let Begun {
+        head,
+        mut changes,
+        ..
+    } = begun;
+    changes.push(change)?;
+    Ok(Begun {
+        head,
+        changes,
+        spent,
+        next: None,
+        taken,
+    })
+}
+
+// What is begun, up to so many bytes, with what they have of the next change.
+fn up_to(begun: Begun, next: BegunChange, taken: usize) -> Begun
+    ensures { result ≡ cut_after begun next taken }
+{
+    Begun {
+        next: Some(next),
+        taken,
+        ..begun
+    }
 }
 
 // Decodes the changes that are left of what is begun.
@@ -223,7 +337,7 @@ fn resume_changes<'a, W: Widths>(
     bytes: &'a [u8],
 ) -> Result<(LentAnswer<'a>, usize), NoAnswer>
     requires leads { LeadsOn (measure W.width_of widths.now) limits begun bytes.now }
-    requires whole { begun.link ≡ None }
+    requires whole { begun.next ≡ None }
     ensures exact { Resumes (measure W.width_of widths.now) limits bytes.now result }
     ensures found { IfOk result (λ x.
         (bytes.now ≡ answer (measure W.width_of widths.now) (lent_answer x.0) ++ drop x.1 bytes.now)
@@ -235,11 +349,11 @@ fn resume_changes<'a, W: Widths>(
         head,
         changes,
         mut spent,
-        link,
+        next,
         taken,
     } = begun;
     // There is none.
-    drop(link);
+    drop(next);
     let mut reader = Reader::with_limit(bytes, limits.bytes);
     let hand = reader.rest();
     reader.bytes = &hand[taken..];
@@ -259,20 +373,50 @@ fn resume_changes<'a, W: Widths>(
             Ok((lent_from(head, changes), taken))
         }
         Ok(false) => {
-            let link = begin_link(alloc, &mut reader)?;
+            let next = begin_change(alloc, widths, hand, &mut reader)?;
             let taken = hand.len().saturating_sub(reader.bytes.len());
             let changes = owned_behind(alloc, changes, more)?;
             Err(NoAnswer::Cut(Some(Begun {
                 head,
                 changes,
                 spent,
-                link,
+                next,
                 taken,
             })))
         }
         Err(halted) => {
             let at = hand.len().saturating_sub(reader.bytes.len());
             Err(NoAnswer::Failed(halted.located(at)))
+        }
+    }
+}
+
+// Decodes what the change at the front of the bytes has of a link whose params have begun, or of a
+// text whose list of pieces has. For any other change the reader stays.
+fn begin_change<'a, W: Widths>(
+    alloc: Global,
+    widths: &W,
+    hand: &'a [u8],
+    reader: &mut Reader<'a>,
+) -> Result<Option<BegunChange>, AllocError>
+    requires { EndsIn hand.now reader.old.bytes.now }
+    ensures begins { (rows : Option ℕ) →
+        IsCut (change_at (measure W.width_of widths.now) reader.old.room rows
+        reader.old.bytes.now) →
+        IfOk result (λ x. BeginsChange (measure W.width_of widths.now) reader.old.room hand.now
+        reader.old.bytes.now (option_map change_part x) reader.new.bytes.now) }
+{
+    let start = reader.bytes;
+    let link = begin_link(alloc, reader)?;
+    match link {
+        Some(link) => Ok(Some(BegunChange::Link(link))),
+        None => {
+            reader.bytes = start;
+            let text = begin_text(alloc, widths, hand, reader)?;
+            match text {
+                Some(text) => Ok(Some(BegunChange::Text(text))),
+                None => Ok(None),
+            }
         }
     }
 }

@@ -48,6 +48,7 @@ pub(super) fn begin_link(
         IsCut (change_at measure reader.old.room rows reader.old.bytes.now) →
         IfOk result (λ x. BeginsLink reader.old.room reader.old.bytes.now
         (option_map part_of x) reader.new.bytes.now) }
+    ensures room { reader.new.room ≡ reader.old.room }
 {
     let start = reader.rest();
     match link_begun_of(alloc, reader) {
@@ -73,9 +74,10 @@ fn with_params(
     reader: &mut Reader<'_>,
 ) -> Result<BegunLink, AllocError>
     requires { IsLinkPart (part_of link) }
-    ensures { IsCut (link_rest_at reader.old.room (part_of link) reader.old.bytes.now) →
+    ensures reads { IsCut (link_rest_at reader.old.room (part_of link) reader.old.bytes.now) →
         IfOk result (λ x. HasReadOn reader.old.room (part_of link) reader.old.bytes.now (part_of x)
         reader.new.bytes.now × ReachesItem reader.old.room (part_of x) reader.new.bytes.now) }
+    ensures room { reader.new.room ≡ reader.old.room }
 {
     let mut link = link;
     match read_params(alloc, &mut link, reader) {

@@ -57,7 +57,7 @@ fn are_runs<W: Widths>(reader: &mut Reader<'_>, widths: &W, text: &str) -> Resul
 }
 
 #[tactic(auto, unfolding(crate::specs::Cuts::is_run_at))]
-fn is_run(reader: &mut Reader<'_>, run: Run) -> Result<bool, ReadError>
+pub(super) fn is_run(reader: &mut Reader<'_>, run: Run) -> Result<bool, ReadError>
     ensures value { Gives (allowed reader.new.room reader.new.bytes.now)
         (λ x. (x, reader.new.bytes.now)) result
         (is_run_at reader.old.room run reader.old.bytes.now) }
@@ -106,14 +106,14 @@ pub(super) fn cut_of(alloc: Global, text: &str, reader: &mut Reader<'_>) -> Resu
 
 // The characters of a text.
 #[tactic(auto, using(std::proofs::lemmas::Str::chars_from_encodes))]
-fn characters_in(alloc: Global, text: &str) -> Result<Vec<char>, AllocError>
+pub(super) fn characters_in(alloc: Global, text: &str) -> Result<Vec<char>, AllocError>
     ensures { IfOk result (λ cs. cs.items ≡ chars text.now) }
 {
     text.chars().collect(alloc)
 }
 
 #[tactic(auto, unfolding(crate::specs::Cuts::threes_at))]
-fn threes_of(reader: &mut Reader<'_>) -> Result<usize, ReadError>
+pub(super) fn threes_of(reader: &mut Reader<'_>) -> Result<usize, ReadError>
     ensures value { Gives (allowed reader.new.room reader.new.bytes.now)
         (λ x. (x, reader.new.bytes.now)) result
         (threes_at reader.old.room reader.old.bytes.now) }
@@ -161,7 +161,7 @@ fn behind(run: Run, left: &[char]) -> &[char]
 
 // A run of the characters that are left, after the last one.
 #[tactic(auto, unfolding(crate::specs::Cuts::run_at))]
-fn run_of(reader: &mut Reader<'_>, last: Run, left: &[char]) -> Result<Run, ReadError>
+pub(super) fn run_of(reader: &mut Reader<'_>, last: Run, left: &[char]) -> Result<Run, ReadError>
     ensures value { Gives (allowed reader.new.room reader.new.bytes.now)
         (λ x. (x, reader.new.bytes.now)) result
         (run_at reader.old.room last left.now reader.old.bytes.now) }

@@ -40,7 +40,7 @@ fn put_own_link(out: &mut Vec<u8>, attrs: &CellAttributes) -> Result<(), AllocEr
     }
 }
 
-pub(crate) fn attribute_kind(value: &AttributeChange) -> usize
+fn attribute_kind(value: &AttributeChange) -> usize
     ensures kind { result ≡ attribute_kind (attribute_change_value value.now) }
     ensures small { result < 10 }
 {

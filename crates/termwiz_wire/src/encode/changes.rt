@@ -1,5 +1,6 @@
 //! Changes.
-ghost use Rattle.std.specs.Prelude.{◌≡◌, ◌<◌, ◌++◌, map, OnOk};
+ghost use Rattle.std.specs.Prelude.{◌≡◌, ◌-◌, ◌<◌, ◌≤◌, ◌^◌, ◌++◌, false, length, map, true};
+ghost use Rattle.std.specs.Prelude.{IfOk, OnOk};
 ghost use Rattle.cbor.specs.Encoding.{Extends, IsText, array, boolean, text, unsigned};
 ghost use Rattle.termwiz_cell.specs.AttributeChangeValue.{attribute_change_value};
 ghost use Rattle.termwiz_cell.specs.ChangeValue.{change_value};
@@ -196,4 +197,34 @@ pub fn encode_changes<W: Widths>(
         encode_change(out, widths, value)?;
     }
     Ok(())
+}
+
+/// Appends a list of changes as `encode_changes` does, up to one that passes so many bytes in all,
+/// and returns whether none does.
+#[tactic(auto, unfolding(crate::specs::Encoding::changes))]
+pub(super) fn encode_changes_within<W: Widths>(
+    out: &mut Vec<u8>,
+    widths: &W,
+    values: &[Change],
+    end: usize,
+) -> Result<bool, AllocError>
+    ensures whole { IfOk result (λ within. within ≡ true → (out.new.items ≡ out.old.items
+        ++ changes (measure W.width_of widths.now) (map change_value values.now))
+        × (length out.new.items ≤ end)) }
+    ensures past { IfOk result (λ within. within ≡ false → (end < 2 ^ 64 - 1)
+        × (end < length (out.old.items
+        ++ changes (measure W.width_of widths.now) (map change_value values.now)))) }
+    ensures kept { Extends out.old.items out.new.items }
+    ensures form { IfOk result (λ within. within ≡ true →
+        AreChanges (measure W.width_of widths.now) (map change_value values.now)) }
+{
+    let count = values.len();
+    put_array(out, count)?;
+    for value in values {
+        if out.len() > end {
+            return Ok(false);
+        }
+        encode_change(out, widths, value)?;
+    }
+    Ok(out.len() <= end)
 }

@@ -29,7 +29,7 @@ fn flag_number(on: bool) -> usize
 
 /// The small attributes in their bit fields, the lowest first. Most cells have the default ones.
 #[tactic(auto, using(crate::proofs::Style::plain_style))]
-pub(crate) fn style_number(attrs: &CellAttributes) -> usize
+pub(super) fn style_number(attrs: &CellAttributes) -> usize
     ensures { result ≡ style_number attrs.now }
 {
     if attrs.attribute_bits_equal(&CellAttributes::blank()) {

@@ -4,7 +4,7 @@ use Rattle.cbor.specs.declared.error.FaultKind.TheVariants.{Truncated}
 use Rattle.cbor.specs.declared.error.ReadError.TheVariants as read_errors
 use Rattle.termwiz_cell.specs.Measure.{measure}
 use Rattle.termwiz_wire.specs.Answers.{Halt, head_at}
-use Rattle.termwiz_wire.specs.Resuming.{HasReached, LeadsOn}
+use Rattle.termwiz_wire.specs.Resuming.{LeadsOn}
 use Rattle.termwiz_wire.proofs.Resuming.{for_none, head_stopped, is_unfinished, leads_first, resumes_failed}
 use Rattle.termwiz_wire.proofs.Within.{lens_of}
 use Rattle.termwiz_wire.proofs.decode.begun.begin.Given.{Over}
@@ -33,9 +33,10 @@ pub returns-in-Truncated-clause-exact : goal.returns-in-Truncated-clause-exact
 returns-in-Truncated-clause-exact g c =
     let m : List ℕ → ℕ = measure g.W.Widths.width_of c.args.widths.now in
     let at : ℕ = allowed c.head_of.new.reader.room c.head_of.new.reader.bytes.now in
-    let halts = head_stopped m c.args.limits c.args.bytes.now read_errors.Truncated at (rw c.in-Truncated.is at (stops g (goal.at.returns-in-Truncated-clause-exact g c).In-Err)) in
+    let stopped = rw c.in-Truncated.is at (stops g (goal.at.returns-in-Truncated-clause-exact g c).In-Err) in
+    let halts = head_stopped m c.args.limits c.args.bytes.now read_errors.Truncated at stopped in
     let h : Halt = record { stop = record { fault = Truncated; left = at }; change = None } in
-    (is_unfinished m c.args.limits c.args.bytes.now h halts refl, for_none (λ b. LeadsOn m c.args.limits b c.args.bytes.now), for_none (λ b. HasReached m c.args.limits b c.args.bytes.now))
+    (is_unfinished m c.args.limits c.args.bytes.now h halts refl, for_none (λ b. LeadsOn m c.args.limits b c.args.bytes.now), record { stop = h.stop; is = stopped; cut = refl })
 
 pub returns-in_default-clause-exact : goal.returns-in_default-clause-exact
 returns-in_default-clause-exact g c =

@@ -11,3 +11,6 @@ pub returns-in_err-begun-clause-exact : goal.returns-in_err-begun-clause-exact
 returns-in_err-begun-clause-exact g c =
     let p = err_from_is_err_and c.from_residual.result c.from_residual.ensures.1 in
     rw (p.1, p.2) (c.in_err-begun.ensures (measure g.W.Widths.width_of c.args.widths.now) c.requires)
+
+pub with_next-requires : goal.with_next-requires
+with_next-requires g c = record { size = (c.requires.width.1, c.requires.height.1); few = c.requires.borne; taken = c.requires.taken; next = c.requires.next }

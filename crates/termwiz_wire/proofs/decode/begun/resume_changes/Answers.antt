@@ -7,7 +7,8 @@ use Rattle.termwiz_surface.specs.Unlogged.{lent_value}
 use Rattle.termwiz_surface.specs.declared.surface.unlogged.LentChange.{LentChange}
 use Rattle.termwiz_wire.specs.Answers.{answer_in, sent_of}
 use Rattle.termwiz_wire.specs.Decoding.{change_at}
-use Rattle.termwiz_wire.specs.Resuming.{GoesOn, IsCut}
+use Rattle.std.specs.Prelude.{Option, option_map}
+use Rattle.termwiz_wire.specs.Resuming.{BeginsChange, ChangePart, EndsIn, GoesOn, IsCut, change_part}
 use Rattle.termwiz_wire.specs.Sent.{answer}
 use Rattle.termwiz_wire.specs.Work.{spent_on}
 use Rattle.termwiz_wire.specs.declared.decode.heads.Head.{Head}
@@ -15,7 +16,7 @@ use Rattle.termwiz_wire.specs.Lent.{lent_answer}
 use Rattle.termwiz_wire.specs.declared.sent.SentAnswer.{SentAnswer}
 use Rattle.termwiz_wire.proofs.AnswersFound.{answer_takes}
 use Rattle.termwiz_wire.proofs.CutLinks.{cut_change}
-use Rattle.termwiz_wire.proofs.Resuming.{answer_took, goes_cut, goes_failed, goes_whole, reading, resumes_whole, slice_from}
+use Rattle.termwiz_wire.proofs.Resuming.{answer_took, goes_cut, goes_ends, goes_failed, goes_whole, reading, resumes_whole, slice_from}
 use Rattle.termwiz_wire.proofs.Within.{Took, lens_of}
 use Rattle.termwiz_wire.proofs.decode.begun.resume_changes.Given.{Over}
 use Rattle.termwiz_wire.proofs.decode.begun.resume_changes.Goals as goal
@@ -69,6 +70,17 @@ returns-in-Ok-true-clause-named g c =
     let source : c.lent_from.result.source ≡ c.args.begun.head.source = ap (λ (s : SentAnswer). s.source) (same g c) in
     rw source (answer_takes (measure g.W.Widths.width_of c.args.widths.now) (c.args.limits.bytes - length c.args.bytes.now) c.args.limits (take c.args.limits.bytes c.args.bytes.now) (sent_of c.args.begun.head (map change_value c.deref.result.now ++ map lent_value c.go_on.new.changes.items), c.go_on.new.reader.bytes.now) (fits g (goal.at.returns-in-Ok-true-clause-named g c).After-go_on) (whole g c)).named
 
+-- what is begun of the next change, among the bytes within the limit
+begins_here : (m : List ℕ → ℕ) (room : ℕ) (hand all rest : List ℕ) (next : Option ChangePart) (after : List ℕ) → hand ≡ all → BeginsChange m room hand rest next after → BeginsChange m room all rest next after
+begins_here m room hand all rest next after is begins = subst (λ (h : List ℕ). BeginsChange m room h rest next after) is begins
+
+pub begin_change-requires : goal.begin_change-requires
+begin_change-requires g c =
+    let before = (goal.at.begin_change-requires g c).After-go_on in
+    let start : List ℕ = take (length c.rest-hand.result.now - c.args.begun.taken) (drop c.args.begun.taken c.rest-hand.result.now) in
+    let end = goes_ends (measure g.W.Widths.width_of c.args.widths.now) c.args.limits c.args.bytes.now c.args.begun c.requires.leads c.requires.whole c.with_limit-reader.result.room start (map change_value c.deref.result.now ++ map lent_value c.new-more.result.items) (map change_value c.deref.result.now ++ map lent_value c.go_on.new.changes.items) c.go_on.new.reader.room c.go_on.new.reader.bytes.now c.with_limit-reader.ensures.room (none_more c.deref.result.now c.args.begun.changes.items c.new-more.result.items c.deref.ensures.value c.new-more.ensures.items) (start_is g before) c.in-Ok-false.field-0 c.in-Ok-false.ensures.goes in
+    subst (λ (h : List ℕ). EndsIn h c.go_on.new.reader.bytes.now) (sym (hand_is g before)) end
+
 pub returns-in-Ok-false-clause-exact : goal.returns-in-Ok-false-clause-exact
 returns-in-Ok-false-clause-exact g c =
     let before = (goal.at.returns-in-Ok-false-clause-exact g c).After-go_on in
@@ -81,8 +93,8 @@ returns-in-Ok-false-clause-exact g c =
     let rest : List ℕ = c.go_on.new.reader.bytes.now in
     let goes : GoesOn m room head made start (Ok false) more (allowed c.go_on.new.reader.room rest) rest = subst (λ (b : Bool). GoesOn m room head made start (Ok b) more (allowed c.go_on.new.reader.room rest) rest) c.in-Ok-false.field-0-test c.in-Ok-false.ensures.goes in
     let cut : IsCut (change_at m c.go_on.new.reader.room (Some head.height) rest) = rw c.in-Ok-false.ensures.room (cut_change m room head (spent_on (Some head) more) rest goes.2) in
-    goes_cut m c.args.limits c.args.bytes.now c.args.begun c.requires.leads c.requires.whole room start made more c.go_on.new.reader.room rest c.with_limit-reader.ensures.room (none_more c.deref.result.now c.args.begun.changes.items c.new-more.result.items c.deref.ensures.value c.new-more.ensures.items) (start_is g before) c.in_ok-changes-in-Ok-false.changes c.in_ok-link-in-Ok-false.link c.begin_link.new.reader.bytes.now c.in-Ok-false.field-0 c.saturating_sub-taken-in-Ok-false.result c.go_on.new.spent c.in-Ok-false.ensures.bytes (c.in_ok-changes-in-Ok-false.ensures ∙ lent_is c.deref.result.now c.args.begun.changes.items c.go_on.new.changes.items c.deref.ensures.value) c.in-Ok-false.field-0-test c.in-Ok-false.ensures.goes (c.in_ok-link-in-Ok-false.ensures.begins m (Some head.height) cut) (c.in-Ok-false.ensures.room ∙ c.with_limit-reader.ensures.room)
-    (lens_of c.rest-hand.result.now (take c.args.limits.bytes c.args.bytes.now) c.begin_link.new.reader.bytes.now c.saturating_sub-taken-in-Ok-false.result c.saturating_sub-taken-in-Ok-false.ensures (hand_is g before))
+    goes_cut m c.args.limits c.args.bytes.now c.args.begun c.requires.leads c.requires.whole room start made more c.go_on.new.reader.room rest c.with_limit-reader.ensures.room (none_more c.deref.result.now c.args.begun.changes.items c.new-more.result.items c.deref.ensures.value c.new-more.ensures.items) (start_is g before) c.in_ok-changes-in-Ok-false.changes c.in_ok-next-in-Ok-false.next c.begin_change.new.reader.bytes.now c.in-Ok-false.field-0 c.saturating_sub-taken-in-Ok-false.result c.go_on.new.spent c.in-Ok-false.ensures.bytes (c.in_ok-changes-in-Ok-false.ensures ∙ lent_is c.deref.result.now c.args.begun.changes.items c.go_on.new.changes.items c.deref.ensures.value) c.in-Ok-false.field-0-test c.in-Ok-false.ensures.goes (begins_here m c.go_on.new.reader.room c.rest-hand.result.now (take c.args.limits.bytes c.args.bytes.now) rest (option_map change_part c.in_ok-next-in-Ok-false.next) c.begin_change.new.reader.bytes.now (hand_is g before) (c.in_ok-next-in-Ok-false.ensures.begins (Some head.height) cut)) (c.in-Ok-false.ensures.room ∙ c.with_limit-reader.ensures.room)
+    (lens_of c.rest-hand.result.now (take c.args.limits.bytes c.args.bytes.now) c.begin_change.new.reader.bytes.now c.saturating_sub-taken-in-Ok-false.result c.saturating_sub-taken-in-Ok-false.ensures (hand_is g before))
     c.in-Ok-false.ensures.spent c.in-Ok-false.ensures.few
 
 pub returns-clause-exact : goal.returns-clause-exact

@@ -3,9 +3,10 @@ mod Touching
 pub mod RowNumbers
 mod Printing
 mod Changed
-mod SoundRepaint
+pub mod SoundRepaint
 mod Settled
 mod ResizedSize
+mod KeptRows
 pub mod Following
 mod Copying
 mod DiffSurfaces

@@ -1,24 +1,26 @@
 -- Rows that changes leave, and those that they mark.
-use Rattle.std.proofs.Common.{◌≡◌, ℕ, ◌+◌, ◌<◌, ◌≤◌, true, false, inl, inr, ◌⊎◌, List, [], ◌∷◌, ◌++◌, ◌-◌, length, get_or, take, drop, replicate, refl, sym, ◌∙◌, ap, subst, arith, length-append, length-take, length-drop}
-use Rattle.std.specs.Prelude.{slice_set, max, nat_le, nat_lt, Bool, ◌||◌, cond, Result, Ok, Err, OnOk, OnErr, ◌==◌}
+use Rattle.std.proofs.Common.{◌≡◌, ℕ, ◌+◌, ◌<◌, ◌≤◌, true, false, inl, inr, ◌⊎◌, List, [], ◌∷◌, ◌++◌, ◌-◌, length, get_or, take, drop, replicate, refl, sym, ◌∙◌, ap, ap₂, subst, arith, length-append, length-take, length-drop}
+use Rattle.std.specs.Prelude.{slice_set, max, nat_le, nat_lt, Bool, not, ◌||◌, cond, Result, Ok, Err, OnOk, OnErr, ◌==◌}
 use Rattle.std.specs.Result.{is_err}
-use Rattle.std.proofs.lemmas.Bool.{cases_Bool, cases_eq, cases_lt, true≢false, eqb-true, eq-eqb, ne_eqb, lt-ltb, le-ltb, le-leb, lt-leb, or_left, or_right, or_from}
+use Rattle.std.proofs.lemmas.Bool.{cases_Bool, cases_eq, cases_lt, true≢false, eqb-true, eq-eqb, ne_eqb, leb-false, lt-ltb, le-ltb, le-leb, lt-leb, not-false, or_left, or_right, or_from, or_parts}
 use Rattle.std.proofs.Math.Bool.{or-false}
 use Rattle.std.proofs.lemmas.List.{length-set, get_or-set_same, get_or-set_other, get_or_past, get_or_append_left, get_or-append_right, get_or-drop, get_or-take, get_or-map, length-replicate, length-map, map-set}
 use Rattle.termwiz_cell.specs.ChangeValue.{ChangeValue}
 use Rattle.termwiz_cell.specs.CellValue.{CellValue, blank}
 use Rattle.termwiz_line.specs.LineFlags.{LineFlags, no_flags}
 use Rattle.termwiz_screen.specs.Log.{LogValue, next_number, appended, flushed, restarted}
+use Rattle.termwiz_line.specs.Row.{row_of}
 use Rattle.termwiz_screen.specs.Screen.{row_at}
 use Rattle.termwiz_screen.specs.ScrollRegions.{with_region, region_up, region_down}
 use Rattle.termwiz_screen.proofs.Logs.{flushed_number}
 use Rattle.termwiz_screen.proofs.Regions.{map-replicate}
 use Rattle.termwiz_surface.specs.Adding.{Makes, with_log}
-use Rattle.termwiz_surface.specs.RowNumbers.{AreMarked, NumbersRows, NumbersTouched}
+use Rattle.termwiz_surface.specs.Resizing.{HasResized, resize_touches}
+use Rattle.termwiz_surface.specs.RowNumbers.{AreMarked, AreRenewed, NumbersRows, NumbersTouched}
 use Rattle.termwiz_screen.specs.Step.{replay, replay_kept}
 use Rattle.termwiz_surface.specs.Touching.{every_row, no_row, scroll_touches, touched}
 use Rattle.termwiz_surface.proofs.Touching.{or_assoc, up-none, down-none}
-use Rattle.termwiz_surface.specs.Surface.{SurfaceValue, Becomes, MarksRows, SameFrame, number_at, numbers_over, screen_of, kept_of, lengths_of}
+use Rattle.termwiz_surface.specs.Surface.{SurfaceValue, Becomes, MarksRows, SameFrame, number_at, numbers_over, screen_of, shown_at, kept_of, lengths_of}
 
 -- ---- numbers over one for all rows
 
@@ -119,6 +121,17 @@ marked-all all number more own n e is =
         | inl before ↦ absurd (omega arith)
         | inr behind ↦ get_or_past (numbers_over more own) j 0 (omega (arith, new)) ∙ sym (get_or_past (numbers_over all own) j 0 (omega (arith, old)))
       ];
+    }
+
+-- rows are taken with their own numbers, and those from one on are marked
+pub renewed : (height first number : ℕ) (old own new : List ℕ) → first ≤ height → length own ≡ height → ((j : ℕ) → j < height → get_or own j 0 ≡ get_or old j 0) → AreMarked first (height - first) number (numbers_over 0 own) new → AreRenewed height first number old new
+renewed height first number old own new inside count same m =
+    let zero_over : (j : ℕ) → j < height → get_or (numbers_over 0 own) j 0 ≡ get_or old j 0 =
+    λ j l. over-at 0 own j (omega (arith, count)) ∙ (let none : max 0 (get_or own j 0) ≡ get_or own j 0 = omega arith in none) ∙ same j l in
+    record {
+      count = m.same_count ∙ length-map own (max 0) ∙ count;
+      kept = λ j before. m.outside j (inl before) ∙ zero_over j (omega arith);
+      marked = λ j from l. m.inside j from (omega arith) ∙ ap (max number) (zero_over j l);
     }
 
 module _ {W : Type 0} where
@@ -234,17 +247,17 @@ range-scroll height first size count some = record {
 
 module _ {W : Type 0} where
   -- rows from a on, n of them, are marked, and the others stay
-  pub marks-range : (touched : ℕ → Bool) (old new : SurfaceValue W) (a n : ℕ) → AreRange touched old.height a n → AreMarked a n old.mark old.numbers new.numbers
+  pub marks-range : (touched : ℕ → Bool) (old new : SurfaceValue W) (a n : ℕ) → AreRange touched old.height a n → new.width ≡ old.width → AreMarked a n old.mark old.numbers new.numbers
       → ((j : ℕ) → IsOutside a n j → row_at new.lines j ≡ row_at old.lines j) → ((j : ℕ) → IsOutside a n j → get_or new.flags j no_flags ≡ get_or old.flags j no_flags) → MarksRows touched old new
-  marks-range touched old new a n range m lines flags = record {
+  marks-range touched old new a n range width m lines flags = record {
     each = λ j l. elim (range.each j l) [
       | inl is ↦ inl (is.0, m.inside j is.1 is.2)
-      | inr out ↦ inr (out.0, (lines j out.1, flags j out.1, m.outside j out.1))
+      | inr out ↦ inr (out.0, (ap₂ row_of width (lines j out.1), flags j out.1, m.outside j out.1))
     ];
   }
 
   -- one row is marked, and the others stay
-  pub marks-one : (y : ℕ) (old new : SurfaceValue W) → AreMarked y 1 old.mark old.numbers new.numbers
+  pub marks-one : (y : ℕ) (old new : SurfaceValue W) → new.width ≡ old.width → AreMarked y 1 old.mark old.numbers new.numbers
       → ((j : ℕ) → IsOutside y 1 j → row_at new.lines j ≡ row_at old.lines j) → ((j : ℕ) → IsOutside y 1 j → get_or new.flags j no_flags ≡ get_or old.flags j no_flags) → MarksRows (λ j. j == y) old new
   marks-one y old new = marks-range (λ j. j == y) old new y 1 (range-one old.height y)
 
@@ -261,12 +274,29 @@ set-outside xs y x d j out = get_or-set_other xs y j x d (λ same. elim out [
 
 module _ {W : Type 0} where
   -- one row has other cells
-  pub marks-set : (y : ℕ) (old new : SurfaceValue W) (row : List CellValue) → AreMarked y 1 old.mark old.numbers new.numbers → new.lines ≡ slice_set old.lines y row → new.flags ≡ old.flags → MarksRows (λ j. j == y) old new
-  marks-set y old new row m lines flags = marks-one y old new m
+  pub marks-set : (y : ℕ) (old new : SurfaceValue W) (row : List CellValue) → new.width ≡ old.width → AreMarked y 1 old.mark old.numbers new.numbers → new.lines ≡ slice_set old.lines y row → new.flags ≡ old.flags → MarksRows (λ j. j == y) old new
+  marks-set y old new row width m lines flags = marks-one y old new width m
       (λ j out. ap (λ (ls : List (List CellValue)). row_at ls j) lines ∙ set-outside old.lines y row [] j out)
       (λ j out. ap (λ (fs : List LineFlags). get_or fs j no_flags) flags)
 
 module _ {W : Type 0} where
+  -- no row is touched, and one shows what it did by other cells
+  pub marks-shown : (touched : ℕ → Bool) (y : ℕ) (old new : SurfaceValue W) → ((j : ℕ) → touched j ≡ false) → new.width ≡ old.width → new.numbers ≡ old.numbers → shown_at new y ≡ shown_at old y
+      → ((j : ℕ) → IsOutside y 1 j → row_at new.lines j ≡ row_at old.lines j) → new.flags ≡ old.flags → MarksRows touched old new
+  marks-shown touched y old new none width numbers shown lines flags = record {
+    each = λ j l. inr (
+      none j,
+      (
+        elim ((range-one old.height y).each j l) [
+          | inl here ↦ let is : j ≡ y = omega (arith, here.1) in subst (λ (k : ℕ). shown_at new k ≡ shown_at old k) (sym is) shown
+          | inr out ↦ ap₂ row_of width (lines j out.1)
+        ],
+        ap (λ (fs : List LineFlags). get_or fs j no_flags) flags,
+        ap (λ (ns : List ℕ). get_or ns j 0) numbers,
+      ),
+    );
+  }
+
   -- changes were made under the number that the list has, and then logged
   pub makes-logged : (f : List ℕ → ℕ) (s m : SurfaceValue W) (cs : List ChangeValue) (mark : ℕ) (log : LogValue) → mark ≡ next_number s.log + length cs → log ≡ appended s.log cs
       → Becomes (record s { mark = mark }) (replay f (screen_of s) cs) (replay_kept f (screen_of s) (kept_of s) cs) (touched f (screen_of s) cs) m → Makes f s cs (with_log m log)
@@ -343,7 +373,7 @@ restarted_more l some = elim (cases_Bool (next_number l == 0)) [
 module _ {W : Type 0} where
   pub numbers-same : (s : SurfaceValue W) → NumbersRows s s
   numbers-same s = record {
-    stayed = λ n j some known l le. (refl, refl, (refl, refl, refl));
+    stayed = λ n j some known l le. (refl, l, (refl, refl, refl));
     grows = omega arith;
   }
 
@@ -351,10 +381,10 @@ module _ {W : Type 0} where
   numbers-then r s t first second = record {
     stayed = λ n j some known l le.
         let later = second.stayed n j some (omega (arith, known, first.grows)) l le in
-        let inside : j < s.height = subst (λ (h : ℕ). j < h) later.1 l in
+        let inside : j < s.height = later.1 in
         let below : number_at s j ≤ n = subst (λ (k : ℕ). k ≤ n) later.2.2 le in
         let before = first.stayed n j some known inside below in
-        (later.0 ∙ before.0, later.1 ∙ before.1, (later.2.0 ∙ before.2.0, later.2.1 ∙ before.2.1, later.2.2 ∙ before.2.2));
+        (later.0 ∙ before.0, before.1, (later.2.0 ∙ before.2.0, later.2.1 ∙ before.2.1, later.2.2 ∙ before.2.2));
     grows = omega (arith, first.grows, second.grows);
   }
 
@@ -365,7 +395,7 @@ module _ {W : Type 0} where
       record {
         stayed = λ n j positive known l le. elim (m.rows.each j (subst (λ (h : ℕ). j < h) m.height l)) [
           | inl is ↦ let above : n < number_at t j = omega (arith, is.1, number, known, some) in absurd (omega (arith, above, le))
-          | inr stays ↦ (m.width, m.height, stays.1)
+          | inr stays ↦ (m.width, subst (λ (h : ℕ). j < h) m.height l, stays.1)
         ];
         grows = omega (arith, number, ap next_number m.log);
       }
@@ -379,10 +409,30 @@ module _ {W : Type 0} where
     grows = rw log (restarted_least s.log);
   }
 
+  -- a row that a resize leaves alone was there, in the same width
+  pub resize-leaves : (s : SurfaceValue W) (w j : ℕ) → resize_touches s w j ≡ false → (w ≡ s.width) × (j < s.height)
+  resize-leaves s w j e =
+      let parts = or_parts (not (w == s.width)) (nat_le s.height j) e in
+      (eqb-true w s.width (not-false (w == s.width) parts.0), leb-false s.height j parts.1)
+
+  -- the surface has taken another size
+  pub numbers-resized : (s t : SurfaceValue W) (w h : ℕ) → HasResized s w h t → NumbersRows s t
+  numbers-resized s t w h r = record {
+    stayed = λ n j some known l le. elim (r.rows.each j (subst (λ (k : ℕ). j < k) r.height l)) [
+      | inl is ↦
+          let above : next_number s.log < next_number (restarted s.log) = restarted_more s.log (omega (arith, some, known)) in
+          absurd (omega (arith, is.1, above, known, le))
+      | inr stays ↦
+          let left = resize-leaves s w j stays.0 in
+          (r.width ∙ left.0, left.1, (stays.1.0 ∙ ap (λ k. row_of k (row_at s.lines j)) left.0, stays.1.1, stays.1.2))
+    ];
+    grows = rw r.log (restarted_least s.log);
+  }
+
   -- none were made, whatever is logged
   pub numbers-none : (s t : SurfaceValue W) (mark : ℕ) (before log : LogValue) → t ≡ record s { log = before; mark = mark } → next_number s.log ≤ next_number log → NumbersRows s (with_log t log)
   numbers-none s t mark before log e le = subst (λ (v : SurfaceValue W). NumbersRows s (with_log v log)) (sym e) (record {
-    stayed = λ n j some known l below. (refl, refl, (refl, refl, refl));
+    stayed = λ n j some known l below. (refl, l, (refl, refl, refl));
     grows = le;
   })
 
@@ -412,7 +462,7 @@ module _ {W : Type 0} where
 
   pub numbers-flushed : (s : SurfaceValue W) (k : ℕ) → NumbersRows s (with_log s (flushed s.log k))
   numbers-flushed s k = record {
-    stayed = λ n j some known l le. (refl, refl, (refl, refl, refl));
+    stayed = λ n j some known l le. (refl, l, (refl, refl, refl));
     grows = omega (arith, flushed_number s.log k);
   }
 
@@ -421,7 +471,6 @@ module _ {W : Type 0} where
   numbers-replaced s fresh t later above then = record {
     stayed = λ n j some known l le.
         let stays = then.stayed n j some (omega (arith, known, later)) l le in
-        let inside : j < fresh.height = subst (λ (h : ℕ). j < h) stays.1 l in
-        absurd (omega (arith, above j inside, stays.2.2, known, le));
+        absurd (omega (arith, above j stays.1, stays.2.2, known, le));
     grows = omega (arith, later, then.grows);
   }

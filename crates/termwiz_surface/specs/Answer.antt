@@ -6,6 +6,7 @@ use Rattle.termwiz_surface.specs.History.{Names}
 use Rattle.termwiz_screen.specs.Log.{LogValue, next_number, due, is_known, delta_limit}
 use Rattle.termwiz_screen.specs.Picture.{Pictures, played}
 use Rattle.termwiz_screen.specs.Step.{regions_fit}
+use Rattle.termwiz_surface.specs.Surface.{SurfaceValue}
 
 pub record AnswerValue : Type 0 where
   pub width : ℕ
@@ -15,6 +16,17 @@ pub record AnswerValue : Type 0 where
   -- the number that it has then
   pub number : ℕ
   pub changes : List ChangeValue
+
+-- a surface's changes that are due from a number on
+abbrev pub delta_of : {W : Type 0} → SurfaceValue W → ℕ → AnswerValue
+delta_of s n =
+    record {
+      width = s.width;
+      height = s.height;
+      base = n;
+      number = next_number s.log;
+      changes = due s.log n;
+    }
 
 -- what each answer has: a size that a surface may have, a number that is at least its base, and no
 -- scroll whose region goes past the last row

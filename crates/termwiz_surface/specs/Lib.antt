@@ -53,21 +53,21 @@ pub use Rattle.termwiz_screen.specs.Fewest
 pub use Rattle.termwiz_screen.specs.SequenceLaws
 pub use Rattle.termwiz_cell.specs.ChangeValue
 -- what callers cite, by its name alone: surfaces, viewers and answers,
-pub use Rattle.termwiz_surface.specs.Surface.{SurfaceValue, blank_surface, blank_surface_from, screen_of, kept_of, full_of, IsSound, IsSurfaceSize, SameFrame, number_at, RowStays, MarksRows}
+pub use Rattle.termwiz_surface.specs.Surface.{SurfaceValue, blank_surface, blank_surface_from, screen_of, kept_of, full_of, IsSound, IsSurfaceSize, SameFrame, number_at, shown_at, RowStays, MarksRows}
 pub use Rattle.termwiz_surface.specs.RowNumbers.{HasStayed, NumbersRows, NumbersTouched}
-pub use Rattle.termwiz_surface.specs.Touching.{touched, touches, touched_by, one_touches, piece_touches, scroll_touches, wrap_touches, down_touches, cursor_row, every_row, no_row}
+pub use Rattle.termwiz_surface.specs.Touching.{touched, touches, touched_by, one_touches, piece_touches, eol_touches, scroll_touches, wrap_touches, down_touches, cursor_row, every_row, no_row}
 pub use Rattle.termwiz_surface.specs.Adding.{Adds, Makes, with_log, marking}
 pub use Rattle.termwiz_surface.specs.Unlogged.{AddsUnlogged, MakesUnlogged, lent_value}
 pub use Rattle.termwiz_surface.specs.Measuring.{AreMeasured}
 pub use Rattle.termwiz_surface.specs.Scrollback.{spare_lines}
 pub use Rattle.termwiz_surface.specs.ScrolledOff.{AddsScrolledOff, BeginsRows, ScrollsOff, ShownRow, first_rows, left_by, left_one, left_piece, left_region, left_step, line_shown, row_shown, rows_scrolled_off}
-pub use Rattle.termwiz_surface.specs.Resizing.{HasResized, Resizes}
+pub use Rattle.termwiz_surface.specs.Resizing.{HasResized, Resizes, resize_touches}
 pub use Rattle.termwiz_surface.specs.Copies.{IsDrawn, IsCopied, IsRegionDrawn, drawn_region, copied_region}
 pub use Rattle.termwiz_surface.specs.Following.{ViewerValue, Follows, FollowsTo, KeepsViewers, Leads, FullLeads, blank_viewer, blank_viewer_from}
 pub use Rattle.termwiz_surface.specs.History.{Names, IsPast, KeepsNames}
 pub use Rattle.termwiz_surface.specs.Asking.{knows, own_repaint, most_own_entries, Repaints, StreamsFrom, StreamsFullyFrom}
 pub use Rattle.termwiz_surface.specs.Diffs.{MeasureAlike, screen_after, HasDrawn, HasCopied, region_at, cut_to, PrintsRegion, GivesRegion, region_diff, rows_of, top_rows, one_row, PrintsRows, HaveTopRows, HaveRow}
-pub use Rattle.termwiz_surface.specs.Answer.{AnswerValue, IsGiven, Carries}
+pub use Rattle.termwiz_surface.specs.Answer.{delta_of, AnswerValue, IsGiven, Carries}
 pub use Rattle.termwiz_surface.specs.Carried.{IsPastOf, IsGivenBy, CarriesTo}
 pub use Rattle.termwiz_storage.specs.Clustered.{IsWhole}
 pub use Rattle.termwiz_surface.specs.Accepting.{Takes}
@@ -161,7 +161,7 @@ pub use Rattle.termwiz_surface.specs.ManySteps.{AnswersTo, DeliversTo, Remembers
 pub use Rattle.termwiz_surface.specs.Printing.{PrintsFirst, PrintsGraphemes}
 pub use Rattle.termwiz_surface.specs.Schedule.{Acts, Allows, IsInRange, IsScheduleOf, Reports, Views, with_empty_log}
 pub use Rattle.termwiz_surface.specs.ScheduleLaws.{BrokenListsLeaveForm, FollowedFullLeadOn, FollowedLeadOn, LackMemory, LackNumbers}
-pub use Rattle.termwiz_surface.specs.RowNumbers.{AreMarked}
+pub use Rattle.termwiz_surface.specs.RowNumbers.{AreMarked, AreRenewed}
 pub use Rattle.termwiz_surface.specs.ScrolledOff.{LeavesRows, first_leaves, left_behind_first, moves_down, top_leaves, topped}
 pub use Rattle.termwiz_surface.specs.Surface.{Becomes, lengths_of, numbers_over}
 pub use Rattle.termwiz_surface.specs.declared.surface.SurfaceError.TheVariants.{ScrollRegion}

@@ -14,14 +14,22 @@ pub record AreMarked (a n number : ℕ) (old new : List ℕ) : Type 0 where
   pub outside :
       (j : ℕ) → (j < a) ⊎ (a + n ≤ j) → slice_index_or new j 0 ≡ slice_index_or old j 0
 
-module _ {W : Type 0} where
-  -- the surface has its old size, and row j its old cells, flags and number
-  abbrev pub HasStayed : SurfaceValue W → SurfaceValue W → ℕ → Type 0
-  HasStayed old new j =
-      (new.width ≡ old.width) × (new.height ≡ old.height) × RowStays old new j
+-- these are the numbers of so many rows: from index a on each is this one, unless it was greater,
+-- and the others stay; a row that is new had 0
+pub record AreRenewed (height a number : ℕ) (old new : List ℕ) : Type 0 where
+  pub count : length new ≡ height
+  pub kept : (j : ℕ) → j < a → slice_index_or new j 0 ≡ slice_index_or old j 0
+  pub marked :
+      (j : ℕ) → a ≤ j → j < height → slice_index_or new j 0 ≡ max number (slice_index_or old j 0)
 
-  -- Whatever number n the surface has had: a row whose number isn't above n now is as it was. 0 is
-  -- no such number.
+module _ {W : Type 0} where
+  -- the surface has its old width, and row j was there, shows its old cells, and has its old flags
+  -- and number
+  abbrev pub HasStayed : SurfaceValue W → SurfaceValue W → ℕ → Type 0
+  HasStayed old new j = (new.width ≡ old.width) × (j < old.height) × RowStays old new j
+
+  -- Whatever number n the surface has had: a row whose number isn't above n now shows what it did.
+  -- 0 is no such number.
   pub record NumbersRows (old new : SurfaceValue W) : Type 0 where
     pub stayed :
         (n j : ℕ) → 0 < n → n ≤ next_number old.log → j < new.height → number_at new j ≤ n →

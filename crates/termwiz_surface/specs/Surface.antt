@@ -140,10 +140,14 @@ module _ {W : Type 0} where
   abbrev pub number_at : SurfaceValue W → ℕ → ℕ
   number_at s j = slice_index_or s.numbers j 0
 
-  -- row j has its old cells, flags and number
+  -- the cells that row j shows
+  abbrev pub shown_at : SurfaceValue W → ℕ → List CellValue
+  shown_at s j = row_of s.width (row_at s.lines j)
+
+  -- row j shows its old cells, and has its old flags and number
   abbrev pub RowStays : SurfaceValue W → SurfaceValue W → ℕ → Type 0
   RowStays old new j =
-      (row_at new.lines j ≡ row_at old.lines j)
+      (shown_at new j ≡ shown_at old j)
       × (slice_index_or new.flags j no_flags ≡ slice_index_or old.flags j no_flags)
       × (number_at new j ≡ number_at old j)
 

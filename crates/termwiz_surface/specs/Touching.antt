@@ -27,6 +27,10 @@ down_touches s j = not (has_below s)
 abbrev pub wrap_touches : Screen → ℕ → Bool
 wrap_touches s j = wraps s && not (has_below s)
 
+-- a clear to the end of the line writes the cursor's row, unless a wrap is pending there
+abbrev pub eol_touches : Screen → ℕ → Bool
+eol_touches s j = nat_lt s.x s.width && cursor_row s j
+
 -- a scroll moves the rows of its region, unless it is by 0 rows
 abbrev pub scroll_touches : ℕ → ℕ → ℕ → ℕ → Bool
 scroll_touches first size count j = nat_lt 0 count && (nat_le first j && nat_lt j (first + size))
@@ -51,8 +55,7 @@ module _ (measure : List ℕ → ℕ) where
   abbrev pub touches : Screen → ChangeValue → ℕ → Bool
   touches s (change.Text text) j = touched_by s (graphemes true text) j
   touches s (change.ClearScreen color) j = true
-  -- where a wrap is pending, the default blanks at the end of the stored row are cut
-  touches s (change.ClearToEndOfLine color) j = cursor_row s j
+  touches s (change.ClearToEndOfLine color) j = eol_touches s j
   touches s (change.ClearToEndOfScreen color) j = nat_le s.y j
   touches s (change.ScrollRegionUp first size count) j = scroll_touches first size count j
   touches s (change.ScrollRegionDown first size count) j = scroll_touches first size count j

@@ -1,6 +1,6 @@
 //! Laws of the definitions that contracts cite. Each is stated on a function that does nothing.
 ghost use Rattle.std.specs.Bool.{Decides};
-ghost use Rattle.std.specs.Prelude.{◌≡◌, ◌<◌, List, max};
+ghost use Rattle.std.specs.Prelude.{◌≡◌, ◌<◌, List, if◌then◌else◌, max};
 ghost use Rattle.termwiz_surface.specs.{AnswersStay, BrokenListsLeaveForm, CarriedLead, GivenCarry};
 ghost use Rattle.termwiz_surface.specs.{ChangesGoOn, ChangesLeadOn, FlushesKeepLeading, LackMemory};
 ghost use Rattle.termwiz_surface.specs.{FlushesKeepPast, FollowedFullLeadOn, FollowedLeadOn};
@@ -10,7 +10,7 @@ ghost use Rattle.termwiz_surface.specs.{RestartsKeepLeading, StreamsLeadOn, full
 ghost use Rattle.termwiz_surface.specs.{FullScreen, Screen, attribute_change_value, change_value};
 ghost use Rattle.termwiz_surface.specs.{ChangeValue, HasResized, Makes, MakesUnlogged, screens};
 ghost use Rattle.termwiz_surface.specs.{NumbersRows, NumbersTouched, SurfaceValue, next_number};
-ghost use Rattle.termwiz_surface.specs.{number_at, ℕ};
+ghost use Rattle.termwiz_surface.specs.{number_at, resize_touches, ℕ};
 
 use termwiz_cell::cell::AttributeChange;
 use termwiz_cell::change::Change;
@@ -87,8 +87,8 @@ pub fn schedule_laws<W: Widths>()
 {}
 
 /// What the numbers of rows say after each call they say after several calls. A list of changes
-/// gives its number to the rows that it touches, and to no others; a resize gives its number to
-/// all.
+/// gives its number to the rows that it touches, and to no others; a resize to another width gives
+/// its number to all, and one of the height alone to the rows that it adds.
 pub fn row_number_laws<W: Widths>()
     ensures same { (s : SurfaceValue W) → NumbersRows s s }
     ensures then { (r s t : SurfaceValue W) →
@@ -98,7 +98,8 @@ pub fn row_number_laws<W: Widths>()
     ensures unlogged { (f : List ℕ → ℕ) (s t : SurfaceValue W) (changes : List ChangeValue) →
         MakesUnlogged f s changes t → NumbersTouched f s changes t }
     ensures resized { (s t : SurfaceValue W) (w h j : ℕ) → HasResized s w h t → j < h →
-        number_at t j ≡ max (next_number t.log) (number_at s j) }
+        number_at t j ≡ (if resize_touches s w j
+        then max (next_number t.log) (number_at s j) else number_at s j) }
 {}
 
 /// Changes, and changes of one attribute, are equal exactly where their values are.

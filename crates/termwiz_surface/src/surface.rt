@@ -357,7 +357,7 @@ impl<W: Widths> Surface<W> {
         ensures followed { KeepsViewers (measure W.width_of) self.old self.new }
         // Its numbers still name what they named, even after an error.
         ensures remembered { KeepsNames (measure W.width_of self.old.widths) self.old self.new }
-        // A row whose number isn't above one that the surface had is as it was then.
+        // A row whose number isn't above one that the surface had shows what it did then.
         ensures numbered { NumbersRows self.old self.new }
     {
         self.refuse(slice::from_ref(&change))?;
@@ -385,7 +385,7 @@ impl<W: Widths> Surface<W> {
         ensures followed { KeepsViewers (measure W.width_of) self.old self.new }
         // Its numbers still name what they named, even after an error.
         ensures remembered { KeepsNames (measure W.width_of self.old.widths) self.old self.new }
-        // A row whose number isn't above one that the surface had is as it was then.
+        // A row whose number isn't above one that the surface had shows what it did then.
         ensures numbered { NumbersRows self.old self.new }
     {
         self.refuse(changes.as_slice())?;
@@ -407,7 +407,7 @@ impl<W: Widths> Surface<W> {
         ensures followed { KeepsViewers (measure W.width_of) self.old self.new }
         // Its numbers still name what they named, even after an error.
         ensures remembered { KeepsNames (measure W.width_of self.old.widths) self.old self.new }
-        // A row whose number isn't above one that the surface had is as it was then.
+        // A row whose number isn't above one that the surface had shows what it did then.
         ensures numbered { NumbersRows self.old self.new }
     {
         self.refuse(changes)?;

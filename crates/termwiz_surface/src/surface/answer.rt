@@ -1,34 +1,39 @@
 //! Answers as values, which viewers can accept later.
-ghost use Rattle.std.specs.Prelude.{◌≡◌, ◌≤◌, ◌&&◌, if◌then◌else◌, IfOk, None, false, length};
+ghost use Rattle.std.specs.Prelude.{◌≡◌, ◌≤◌, ◌&&◌, if◌then◌else◌, IfOk, IfSome, None, false};
+ghost use Rattle.std.specs.Prelude.{length};
 ghost use Rattle.std.specs.Prelude.{nat_le};
 ghost use Rattle.termwiz_surface.specs.{IsBorrowedSlice, IsPastOf, IsSurfaceSize, most_own_entries};
 ghost use Rattle.termwiz_surface.specs.{IsOwnedSlice, change_value, full_screens, map, own_repaint};
 ghost use Rattle.termwiz_surface.specs.{CarriesTo, FullScreen, IsGivenBy, is_repaint, regions_fit};
-ghost use Rattle.termwiz_surface.specs.{Screen, Some, knows, measure, screens, true, ℕ};
+ghost use Rattle.termwiz_surface.specs.{Screen, Some, delta_of, knows, measure, screens};
+ghost use Rattle.termwiz_surface.specs.{stream_of, true, ℕ};
 
 use super::Surface;
-use std::alloc::AllocError;
+use std::alloc::{AllocError, Global};
 use std::borrow::CowSlice;
 use std::marker::Model;
 use termwiz_cell::change::{Change, SEQ_ZERO, SequenceNo};
 use termwiz_cell::emoji::Widths;
+use termwiz_screen::log::delta_limit;
 use termwiz_screen::scroll_region::regions_fit;
 
 /// What leads a viewer to the screen that a surface had when it returned the answer: what
-/// `get_changes` returns, as a value with the size and the numbers. It can be stored or sent, and
-/// delivered late, repeatedly, in any order, or never.
+/// `get_changes` returns, as a value with the size and the numbers. It can be sent, and delivered
+/// late, repeatedly, in any order, or never.
+///
+/// Its changes are borrowed from the surface's log, or its own, as those of a repaint are;
+/// `into_owned` makes an answer that can be stored.
 #[derive(Drop, Debug)]
-pub struct Answer {
+pub struct Answer<'a> {
     width: usize,
     height: usize,
     base: SequenceNo,
     number: SequenceNo,
-    changes: Vec<Change>,
+    changes: CowSlice<'a, Change>,
 }
 
-impl Model for Answer {
-    ghost use Rattle.std.specs.Prelude.{map};
-    ghost use Rattle.termwiz_cell.specs.ChangeValue.{change_value};
+impl<'a> Model for Answer<'a> {
+    ghost use Rattle.termwiz_screen.specs.Stream.{stream_of};
     ghost use Rattle.termwiz_surface.specs.Answer.{AnswerValue, IsWellFormed};
 
     ghost Value = { AnswerValue };
@@ -38,13 +43,13 @@ impl Model for Answer {
       height = a.height;
       base = a.base;
       number = a.number;
-      changes = map change_value a.changes.items;
+      changes = stream_of a.changes;
     } };
 
     ghost invariant = { λ a. IsWellFormed (view a) };
 }
 
-impl Answer {
+impl<'a> Answer<'a> {
     /// An answer from its parts, as they were stored or sent: a repaint where the base is 0.
     /// Returns `None` where the number is less than the base, or a scroll among the changes has a
     /// region that goes past the last row.
@@ -53,7 +58,7 @@ impl Answer {
         base: SequenceNo,
         number: SequenceNo,
         changes: Vec<Change>,
-    ) -> Option<Answer>
+    ) -> Option<Answer<'a>>
         requires size { IsSurfaceSize size.0 size.1 }
         ensures { result
             ≡ (if nat_le base number && regions_fit size.1 (map change_value changes.items)
@@ -77,7 +82,7 @@ impl Answer {
             height,
             base,
             number,
-            changes,
+            changes: CowSlice::Owned(changes),
         })
     }
 
@@ -125,24 +130,67 @@ impl Answer {
         self.changes.as_slice()
     }
 
-    /// The changes, without a copy.
-    pub fn into_changes(self) -> Vec<Change>
-        ensures value { map change_value result.items ≡ self.changes }
+    /// The changes. Those that it owns are not copied.
+    pub fn into_changes(self, alloc: Global) -> Result<Vec<Change>, AllocError>
+        ensures value { IfOk result (λ changes.
+            map change_value changes.items ≡ self.entry.changes) }
         // No scroll among them has a region that goes past the last row.
-        ensures regions { regions_fit self.height (map change_value result.items) ≡ true }
+        ensures regions { IfOk result (λ changes.
+            regions_fit self.entry.height (map change_value changes.items) ≡ true) }
+    {
+        let changes = self.changes.into_owned(alloc)?;
+        Ok(changes)
+    }
+
+    /// The changes as they are: borrowed, or its own.
+    pub(crate) fn into_stream(self) -> CowSlice<'a, Change>
+        ensures { stream_of result ≡ self.entry.changes }
     {
         self.changes
+    }
+
+    /// The same answer with changes of its own, which outlives the surface. Those that it owns are
+    /// not copied.
+    pub fn into_owned(self, alloc: Global) -> Result<Answer<'static>, AllocError>
+        ensures { IfOk result (λ answer. answer ≡ self.entry) }
+    {
+        let (width, height) = self.size();
+        let (base, number) = (self.base, self.number);
+        let changes = CowSlice::Owned(self.into_changes(alloc)?);
+        Ok(Answer {
+            width,
+            height,
+            base,
+            number,
+            changes,
+        })
     }
 }
 
 impl<W: Widths> Surface<W> {
-    /// The answer for a viewer that was last given the number `seq`: a copy of what `get_changes`
-    /// returns for it, with the base `seq` for the changes from that number on, and 0 for a
-    /// repaint.
+    /// The changes that are due from a number on, where the log has them and they aren't too many,
+    /// so that `answer` returns them too. Else a repaint is due.
+    pub fn delta(&self, seq: SequenceNo) -> Option<Answer<'_>>
+        ensures some { IfSome result (λ delta. (knows self.now seq ≡ true)
+            × (delta ≡ delta_of self.now seq)) }
+        ensures none { result ≡ None → knows self.now seq ≡ false }
+    {
+        let due = self.log.due(seq, delta_limit(self.width, self.height))?;
+        Some(Answer {
+            width: self.width,
+            height: self.height,
+            base: seq,
+            number: self.log.next_number(),
+            changes: CowSlice::Borrowed(due),
+        })
+    }
+
+    /// The answer for a viewer that was last given the number `seq`: what `get_changes` returns for
+    /// it, with the base `seq` for the changes from that number on, and 0 for a repaint.
     ///
     /// It leads to the screen that this surface has now. That of a full surface leads to its full
     /// screen, for a plain viewer too.
-    pub fn answer(&self, seq: SequenceNo) -> Result<Answer, AllocError>
+    pub fn answer(&self, seq: SequenceNo) -> Result<Answer<'_>, AllocError>
         ensures given { IfOk result (λ answer.
             IsGivenBy screens (measure W.width_of) self.now seq answer) }
         ensures given_fully { self.now.full ≡ true → IfOk result (λ answer.
@@ -164,7 +212,6 @@ impl<W: Widths> Surface<W> {
     {
         let (number, changes) = self.get_changes(seq)?;
         let is_repaint = is_owned(&changes);
-        let changes = changes.into_owned(self.alloc)?;
         Ok(Answer {
             width: self.width,
             height: self.height,

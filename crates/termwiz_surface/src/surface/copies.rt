@@ -46,7 +46,7 @@ impl<W: Widths> Surface<W> {
         ensures followed { KeepsViewers (measure W.width_of) self.old self.new }
         // Its numbers still name what they named, even after an error.
         ensures remembered { KeepsNames (measure W.width_of self.old.widths) self.old self.new }
-        // A row whose number isn't above one that the surface had is as it was then.
+        // A row whose number isn't above one that the surface had shows what it did then.
         ensures numbered { NumbersRows self.old self.new }
     {
         let (width, height) = other.dimensions();
@@ -89,7 +89,7 @@ impl<W: Widths> Surface<W> {
         ensures followed { KeepsViewers (measure W.width_of) self.old self.new }
         // Its numbers still name what they named, even after an error.
         ensures remembered { KeepsNames (measure W.width_of self.old.widths) self.old self.new }
-        // A row whose number isn't above one that the surface had is as it was then.
+        // A row whose number isn't above one that the surface had shows what it did then.
         ensures numbered { NumbersRows self.old self.new }
     {
         let copies = self.diff_region(dest_x, dest_y, width, height, self, src_x, src_y)?;
@@ -127,7 +127,7 @@ impl<W: Widths> Surface<W> {
         ensures followed { KeepsViewers (measure W.width_of) self.old self.new }
         // Its numbers still name what they named, even after an error.
         ensures remembered { KeepsNames (measure W.width_of self.old.widths) self.old self.new }
-        // A row whose number isn't above one that the surface had is as it was then.
+        // A row whose number isn't above one that the surface had shows what it did then.
         ensures numbered { NumbersRows self.old self.new }
     {
         let cursor = (self.x, self.y);

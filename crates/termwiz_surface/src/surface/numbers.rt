@@ -1,7 +1,7 @@
 //! The numbers of a surface's rows, which say when each row last changed.
 ghost use Rattle.std.specs.Prelude.{◌≡◌, ◌+◌, ◌<◌, ◌≤◌, ◌^◌, ◌==◌, ◌&&◌, ◌||◌, IfOk, OnOk, OnErr};
 ghost use Rattle.std.specs.Prelude.{max, nat_lt, replicate, slice_index_or, vec_capacity, vec_len};
-ghost use Rattle.termwiz_surface.specs.{AreMarked, IsSound, SameFrame, ℕ, length, measure};
+ghost use Rattle.termwiz_surface.specs.{AreMarked, AreRenewed, IsSound, SameFrame, measure, ℕ};
 ghost use Rattle.termwiz_surface.specs.{next_number, number_at, numbers_over, restarted, with_log};
 
 use super::Surface;
@@ -98,20 +98,23 @@ impl RowNumbers {
         }
     }
 
-    /// Takes `height` rows, and gives all of them this number, unless they have greater ones.
-    pub(super) fn renew(&mut self, height: usize, number: SequenceNo)
-        requires { height ≤ vec_capacity self.old.own }
-        ensures marked { (j : ℕ) → j < height →
-            slice_index_or (numbers_over self.new.all self.new.own.items) j 0
-            ≡ max number (slice_index_or (numbers_over self.old.all self.old.own.items) j 0) }
+    /// Takes `height` rows, and gives those from `first` on this number, unless they have greater
+    /// ones.
+    pub(super) fn renew(&mut self, height: usize, first: usize, number: SequenceNo)
+        requires room { height ≤ vec_capacity self.old.own }
+        requires inside { first ≤ height }
+        ensures marked { AreRenewed height first number
+            (numbers_over self.old.all self.old.own.items)
+            (numbers_over self.new.all self.new.own.items) }
         ensures len { vec_len self.new.own ≡ height }
     {
         self.own_all();
-        self.all = number;
+        self.all = SEQ_ZERO;
         self.own.truncate(height);
         for _row in self.own.len()..height {
             self.own.push_reserved(SEQ_ZERO);
         }
+        self.mark_rows(first, height - first, number);
     }
 }
 
@@ -126,17 +129,18 @@ impl Clone for RowNumbers {
 
 impl<W: Widths> Surface<W> {
     /// The number of a row: the one that the surface had after the last list of changes that wrote
-    /// or moved the row, or after a later resize or error. In a new surface it is the surface's
-    /// number, and 0 if it was made from none; it is 0 past the last row.
+    /// or moved the row, or after a later error, resize to another width, or resize that added the
+    /// row. In a new surface it is the surface's number, and 0 if it was made from none; it is 0
+    /// past the last row.
     pub fn row_seqno(&self, row: usize) -> SequenceNo
         ensures { result ≡ number_at self.now row }
     {
         self.numbers.get(row)
     }
 
-    /// Whether the row at this index from the top may differ from what it was when the surface had
-    /// the number `since`, in its cells or in how large it is shown. Each row may where that is 0.
-    /// It is `false` past the last row.
+    /// Whether the row at this index from the top may show something else than when the surface
+    /// had the number `since`, in its cells or in how large it is shown. Each row may where that is
+    /// 0. It is `false` past the last row.
     pub fn row_changed_since(&self, row: usize, since: SequenceNo) -> bool
         ensures { result
             ≡ nat_lt row self.now.height && (since == 0 || nat_lt since (number_at self.now row)) }

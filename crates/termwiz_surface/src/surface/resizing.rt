@@ -1,7 +1,8 @@
 //! Resizing surfaces.
-ghost use Rattle.std.specs.Prelude.{◌≡◌, ◌+◌, ◌<◌, ◌≤◌, ◌^◌, OnErr, OnOk, ℕ};
+ghost use Rattle.std.specs.Prelude.{◌≡◌, ◌+◌, ◌<◌, ◌≤◌, ◌^◌, OnErr, OnOk, nat_le, ℕ};
 ghost use Rattle.termwiz_surface.specs.{HasResized, IsSurfaceSize, KeepsNames, KeepsViewers};
-ghost use Rattle.termwiz_surface.specs.{NumbersRows, Resizes, measure, next_number, number_at};
+ghost use Rattle.termwiz_surface.specs.{NumbersRows, Resizes, measure, next_number};
+ghost use Rattle.termwiz_surface.specs.{resize_touches};
 
 use super::{Surface, SurfaceError};
 use std::alloc::AllocError;
@@ -15,7 +16,8 @@ impl<W: Widths> Surface<W> {
     ///   ones added.
     /// - A cursor past the last column or row, as where a wrap is pending, moves to the last one.
     /// - The log is emptied, and the number grows by one, unless it is 0, so every viewer gets a
-    ///   repaint. Every row gets the number.
+    ///   repaint. Where the width changes every row gets the number, and else the rows that are
+    ///   added.
     /// - `Numbers`: the number is the greatest `usize`. `Memory`: memory was refused. Both leave
     ///   the surface unchanged.
     pub fn resize(&mut self, width: usize, height: usize) -> Result<(), SurfaceError>
@@ -25,7 +27,7 @@ impl<W: Widths> Surface<W> {
         ensures followed { KeepsViewers (measure W.width_of) self.old self.new }
         // Its numbers still name what they named, even after an error.
         ensures remembered { KeepsNames (measure W.width_of self.old.widths) self.old self.new }
-        // A row whose number isn't above one that the surface had is as it was then.
+        // A row whose number isn't above one that the surface had shows what it did then.
         ensures numbered { NumbersRows self.old self.new }
     {
         if !self.log.has_numbers(1) {
@@ -40,9 +42,8 @@ impl<W: Widths> Surface<W> {
         requires number { next_number self.old.log + 1 < 2 ^ 64 }
         ensures ok { OnOk result (HasResized self.old width height self.new) }
         ensures err { OnErr result (self.new ≡ self.old) }
-        ensures numbered { OnOk result ((j : ℕ) → j < self.new.height →
-            next_number self.new.log ≤ number_at self.new j) }
     {
+        let first = self.first_touched(width, height);
         self.numbers.reserve(height)?;
         resize_rows(self.alloc, &mut self.rows, width, height)?;
         self.width = width;
@@ -51,7 +52,20 @@ impl<W: Widths> Surface<W> {
         self.y = self.y.min(height - 1);
         self.log.restart();
         self.mark = self.log.next_number();
-        self.numbers.renew(height, self.mark);
+        self.numbers.renew(height, first, self.mark);
         Ok(())
+    }
+
+    // The first row that a resize touches: it touches each one from there on.
+    fn first_touched(&self, width: usize, height: usize) -> usize
+        ensures inside { result ≤ height }
+        ensures touched { (j : ℕ) → j < height →
+            resize_touches self.now width j ≡ nat_le result j }
+    {
+        if width == self.width {
+            self.height.min(height)
+        } else {
+            0
+        }
     }
 }

@@ -7,9 +7,9 @@ ghost use Rattle.termwiz_surface.specs.{change_value, clear_screen, eol_lengths,
 ghost use Rattle.termwiz_surface.specs.{region_down, region_fits, regions_fit, replay_kept};
 ghost use Rattle.termwiz_surface.specs.{Becomes, SameFrame, clear_eol, clear_eos, lengths_of};
 ghost use Rattle.termwiz_surface.specs.{kept_of, measure, region_up, screen_of, step_kept};
-ghost use Rattle.termwiz_surface.specs.{cursor_row, every_row, no_row, scroll_touches, touched};
+ghost use Rattle.termwiz_surface.specs.{cursor_row, eol_touches, every_row, no_row, touched};
 ghost use Rattle.termwiz_surface.specs.{OnErr, blank, length, map, placed, replay, step, touches};
-ghost use Rattle.termwiz_surface.specs.{true};
+ghost use Rattle.termwiz_surface.specs.{scroll_touches, true};
 
 use super::Surface;
 use std::alloc::AllocError;
@@ -33,14 +33,18 @@ impl<W: Widths> Surface<W> {
             (record (kept_of self.old) {
               lengths = eol_lengths s (with_background color.now) (lengths_of self.old);
             })
-            (cursor_row s) self.new) }
+            (eol_touches s) self.new) }
         ensures err { OnErr result (SameFrame self.old self.new) }
     {
         let pen = background_only(self.alloc, *color)?;
         let cleared = blank_with(&pen)?;
         fill_row(&mut self.rows, self.width, self.x, self.y, &cleared)?;
-        self.numbers.mark_row(self.y, self.mark);
         self.pen = pen;
+        if self.x == self.width {
+            // A wrap is pending, and the row shows what it did.
+            return Ok(());
+        }
+        self.numbers.mark_row(self.y, self.mark);
         Ok(())
     }
 

@@ -2,7 +2,8 @@
 ghost use Rattle.std.specs.Prelude.{◌≡◌, IfOk, List, [], replicate};
 ghost use Rattle.termwiz_surface.specs.{All, AnswersTo, DeliversTo, Held, IsManyInRange};
 ghost use Rattle.termwiz_surface.specs.{IsManySchedule, IsSurfaceSize, Remembers, ResizesAs};
-ghost use Rattle.termwiz_surface.specs.{Serves, blank_viewer, measure};
+ghost use Rattle.termwiz_surface.specs.{IsGivenBy, Serves, blank_viewer, knows, measure};
+ghost use Rattle.termwiz_surface.specs.{false, own_repaint, screens};
 ghost use Rattle.termwiz_surface.specs.ManySchedule.{ManyState, RunsMany};
 ghost use Rattle.termwiz_surface.specs.ManySteps.{many_state};
 
@@ -111,7 +112,7 @@ fn serve<W: Widths>(
     alloc: Global,
     surface: &mut Surface<W>,
     viewers: &mut Vec<Viewer<W>>,
-    answers: &mut Vec<Answer>,
+    answers: &mut Vec<Answer<'static>>,
     event: ManyEvent<W>,
 ) -> Result<ManyOutcome, AllocError>
     requires { IsManyInRange event }
@@ -129,7 +130,7 @@ fn serve<W: Widths>(
             if v >= viewers.len() {
                 return Ok(ManyOutcome::NoSuch);
             }
-            answer(surface, viewers[v].last(), answers)
+            answer(alloc, surface, viewers[v].last(), answers)
         }
         ManyEvent::Deliver(v, k) => {
             if v >= viewers.len() || k >= answers.len() {
@@ -148,14 +149,15 @@ fn serve<W: Widths>(
 
 // Stores the surface's answer for a number.
 fn answer<W: Widths>(
+    alloc: Global,
     surface: &Surface<W>,
     seq: SequenceNo,
-    answers: &mut Vec<Answer>,
+    answers: &mut Vec<Answer<'static>>,
 ) -> Result<ManyOutcome, AllocError>
     ensures { IfOk result (λ outcome. AnswersTo (measure W.width_of)
         surface.now seq answers.old.items outcome answers.new.items) }
 {
-    match surface.answer(seq) {
+    match kept_answer(alloc, surface, seq) {
         Ok(answer) => {
             let number = answers.len();
             answers.push(answer)?;
@@ -165,8 +167,25 @@ fn answer<W: Widths>(
     }
 }
 
+// The surface's answer for a number, with changes of its own.
+fn kept_answer<W: Widths>(
+    alloc: Global,
+    surface: &Surface<W>,
+    seq: SequenceNo,
+) -> Result<Answer<'static>, AllocError>
+    ensures given { IfOk result (λ answer.
+        IsGivenBy screens (measure W.width_of) surface.now seq answer) }
+    ensures entries { knows surface.now seq ≡ false →
+        IfOk result (λ answer. answer.changes ≡ own_repaint surface.now) }
+{
+    surface.answer(seq)?.into_owned(alloc)
+}
+
 // Gives a viewer an answer. The outcome has what the viewer shows then.
-fn deliver<W: Widths>(viewer: &mut Viewer<W>, answer: &Answer) -> Result<ManyOutcome, AllocError>
+fn deliver<W: Widths>(
+    viewer: &mut Viewer<W>,
+    answer: &Answer<'_>,
+) -> Result<ManyOutcome, AllocError>
     ensures { IfOk result (λ outcome.
         DeliversTo (measure W.width_of) viewer.old answer.now outcome viewer.new) }
 {

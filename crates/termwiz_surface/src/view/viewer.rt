@@ -238,7 +238,7 @@ impl<W: Widths> Viewer<W> {
     }
 
     // Refuses an answer that doesn't fit, before anything changes.
-    fn decline(&self, answer: &Answer) -> Result<(), AcceptError>
+    fn decline(&self, answer: &Answer<'_>) -> Result<(), AcceptError>
         ensures declines { Declines self.now answer.now result }
         ensures sized { OnOk result (
             HasFullSize answer.now.width answer.now.height (full_of self.now.surface)) }
@@ -260,7 +260,7 @@ impl<W: Widths> Viewer<W> {
     }
 
     // Applies the changes of an answer that fits, and sets the viewer's number to its number.
-    fn take(&mut self, answer: &Answer) -> Result<(), AllocError>
+    fn take(&mut self, answer: &Answer<'_>) -> Result<(), AllocError>
         requires may { MayTake self.old answer.now }
         requires numbers { next_number self.old.surface.log + length answer.now.changes < 2 ^ 64 }
         ensures ok { OnOk result ((self.new.last ≡ answer.now.number)
@@ -281,14 +281,14 @@ impl<W: Widths> Viewer<W> {
         Ok(())
     }
 
-    // Applies the changes of an owned answer that fits, which are moved, and sets the viewer's
-    // number to its number.
-    fn take_owned(&mut self, answer: Answer) -> Result<(), AllocError>
+    // Applies the changes of an answer that fits, of which those that it owns are moved, and sets
+    // the viewer's number to its number.
+    fn take_owned(&mut self, answer: Answer<'_>) -> Result<(), AllocError>
         requires may { MayTake self.old answer }
         requires numbers { next_number self.old.surface.log + length answer.changes < 2 ^ 64 }
-        ensures ok { OnOk result ((self.new.last ≡ answer.number)
+        ensures ok { OnOk result ((self.new.last ≡ answer.entry.number)
             × Makes (measure W.width_of self.old.surface.widths)
-            self.old.surface answer.changes self.new.surface) }
+            self.old.surface answer.entry.changes self.new.surface) }
         ensures err { OnErr result (
             HasDropped (measure W.width_of self.old.surface.widths) self.old self.new) }
         ensures followed { KeepsViewers (measure W.width_of) self.old.surface self.new.surface }
@@ -298,7 +298,7 @@ impl<W: Widths> Viewer<W> {
     {
         let number = answer.number();
         self.last = SEQ_ZERO;
-        if self.surface.add_changes(answer.into_changes()).is_err() {
+        if self.add(answer.into_stream()).is_err() {
             return Err(AllocError);
         }
         self.last = number;
@@ -314,7 +314,7 @@ impl<W: Widths> Viewer<W> {
     /// - `Numbers`: the numbers of the viewer's own surface are used up; it shows the same.
     ///   `Memory`: memory was refused; it may show anything. After both the viewer has no number,
     ///   so that it needs a repaint.
-    pub fn accept(&mut self, answer: &Answer) -> Result<SequenceNo, AcceptError>
+    pub fn accept(&mut self, answer: &Answer<'_>) -> Result<SequenceNo, AcceptError>
         ensures takes { Takes (measure W.width_of self.old.surface.widths)
             self.old answer.now result self.new }
         // A viewer that shows what its number names has the screen that the answer was given for,
@@ -332,7 +332,7 @@ impl<W: Widths> Viewer<W> {
         // The numbers of its own surface still name what they named, even after an error.
         ensures remembered { KeepsNames (measure W.width_of self.old.surface.widths)
             self.old.surface self.new.surface }
-        // A row whose number isn't above one that its own surface had is as it was then.
+        // A row whose number isn't above one that its own surface had shows what it did then.
         ensures numbered { NumbersRows self.old.surface self.new.surface }
     {
         self.decline(answer)?;
@@ -344,27 +344,27 @@ impl<W: Widths> Viewer<W> {
         Ok(answer.number())
     }
 
-    /// Behaves like `accept` on an owned answer, whose changes are moved into the log of the
-    /// viewer's own surface, and not copied.
-    pub fn accept_owned(&mut self, answer: Answer) -> Result<SequenceNo, AcceptError>
+    /// Behaves like `accept`, and moves the changes that the answer owns into the log of the
+    /// viewer's own surface.
+    pub fn accept_owned(&mut self, answer: Answer<'_>) -> Result<SequenceNo, AcceptError>
         ensures takes { Takes (measure W.width_of self.old.surface.widths)
-            self.old answer result self.new }
+            self.old answer.entry result self.new }
         // A viewer that shows what its number names has the screen that the answer was given for,
         // and of a full surface the full screen,
         ensures shows { ShowsCarried screens (measure W.width_of)
-            self.old answer result self.new }
+            self.old answer.entry result self.new }
         ensures shows_fully { ShowsCarried full_screens (measure W.width_of)
-            self.old answer result self.new }
+            self.old answer.entry result self.new }
         // and shows what its number names then, even after an error.
-        ensures names { StaysNamed screens (measure W.width_of) self.old answer self.new }
+        ensures names { StaysNamed screens (measure W.width_of) self.old answer.entry self.new }
         ensures names_fully { StaysNamed full_screens (measure W.width_of)
-            self.old answer self.new }
+            self.old answer.entry self.new }
         // Each viewer that follows the viewer's own surface still follows it, even after an error.
         ensures followed { KeepsViewers (measure W.width_of) self.old.surface self.new.surface }
         // The numbers of its own surface still name what they named, even after an error.
         ensures remembered { KeepsNames (measure W.width_of self.old.surface.widths)
             self.old.surface self.new.surface }
-        // A row whose number isn't above one that its own surface had is as it was then.
+        // A row whose number isn't above one that its own surface had shows what it did then.
         ensures numbered { NumbersRows self.old.surface self.new.surface }
     {
         self.decline(&answer)?;
@@ -392,7 +392,7 @@ impl<W: Widths> Viewer<W> {
         // The numbers of its own surface still name what they named, even after an error.
         ensures remembered { KeepsNames (measure W.width_of self.old.surface.widths)
             self.old.surface self.new.surface }
-        // A row whose number isn't above one that its own surface had is as it was then.
+        // A row whose number isn't above one that its own surface had shows what it did then.
         ensures numbered { NumbersRows self.old.surface self.new.surface }
     {
         self.surface.resize(width, height)?;
@@ -424,7 +424,7 @@ impl<W: Widths> Viewer<W> {
         // The numbers of its own surface still name what they named.
         ensures remembered { KeepsNames (measure W.width_of self.old.surface.widths)
             self.old.surface self.new.surface }
-        // A row whose number isn't above one that its own surface had is as it was then.
+        // A row whose number isn't above one that its own surface had shows what it did then.
         ensures numbered { NumbersRows self.old.surface self.new.surface }
     {
         self.surface.flush_changes_older_than(seq);
@@ -456,7 +456,7 @@ impl<W: Widths> Viewer<W> {
         // The numbers of its own surface still name what they named, even after an error.
         ensures remembered { KeepsNames (measure W.width_of self.old.surface.widths)
             self.old.surface self.new.surface }
-        // A row whose number isn't above one that its own surface had is as it was then.
+        // A row whose number isn't above one that its own surface had shows what it did then.
         ensures numbered { NumbersRows self.old.surface self.new.surface }
     {
         let (number, changes) = self.fetch(source)?;

@@ -1,6 +1,5 @@
 use Rattle.std.proofs.Common.{inl, inr, ap, sym, ◌∙◌}
 use Rattle.std.specs.Prelude.{max}
-use Rattle.std.proofs.lemmas.Bool.{true≢false}
 use Rattle.termwiz_screen.specs.Log.{next_number}
 use Rattle.termwiz_surface.specs.Surface.{number_at}
 use Rattle.termwiz_surface.proofs.RowNumbers.{numbers-same, numbers-then, numbers-touched}
@@ -21,6 +20,6 @@ returns-clause-unlogged g c = unlogged-touched
 
 pub returns-clause-resized : goal.returns-clause-resized
 returns-clause-resized g c = λ s t w h j r l. elim (r.rows.each j l) [
-  | inl is ↦ is.1 ∙ ap (λ n. max n (number_at s j)) (sym (ap next_number r.log))
-  | inr stays ↦ absurd (true≢false stays.0)
+  | inl is ↦ rw is.0 (is.1 ∙ ap (λ n. max n (number_at s j)) (sym (ap next_number r.log)))
+  | inr stays ↦ rw stays.0 stays.1.2
 ]

@@ -1,16 +1,14 @@
-use Rattle.std.proofs.Common.{◌≡◌, ◌≤◌, true, inl, inr, map, refl, sym, ap, subst, ◌∙◌, arith}
+use Rattle.std.proofs.Common.{◌≡◌, ◌≤◌, true, inl, inr, refl, sym, ap, subst, ◌∙◌, arith}
 use Rattle.std.specs.Prelude.{not, if◌then◌else◌}
 use Rattle.std.specs.Cow.{IsBorrowedSlice, IsOwnedSlice}
 use Rattle.std.specs.declared.borrow.CowSlice.{CowSlice}
 use Rattle.std.specs.declared.borrow.CowSlice.TheVariants.{Borrowed, Owned}
 use Rattle.std.proofs.lemmas.Bool.{cases_Bool}
-use Rattle.termwiz_cell.proofs.Lists.{map-clone}
-use Rattle.termwiz_cell.specs.ChangeValue.{change_value}
 use Rattle.termwiz_screen.specs.Log.{is_known, delta_limit}
 use Rattle.termwiz_surface.specs.Surface.{full_of, SurfaceValue, screen_of}
 use Rattle.termwiz_screen.specs.Picture.{screens, full_screens}
 use Rattle.termwiz_screen.specs.Step.{regions_fit}
-use Rattle.termwiz_screen.specs.Stream.{IsStream, IsFullStream, stream_of}
+use Rattle.termwiz_screen.specs.Stream.{stream_of}
 use Rattle.termwiz_surface.proofs.Remembering.{given-carries, is-given, known_reaches}
 use Rattle.termwiz_surface.proofs.surface.Surface.answer.Given as given
 use Rattle.termwiz_surface.proofs.surface.Surface.answer.Goals as goal
@@ -22,9 +20,6 @@ lent_or_made (Borrowed r) lent made = made
 lent_or_made (Owned v) lent made = lent
 
 module _ (g : given.Over) (c : goal.Joined-is_repaint g) where
-  copies : map change_value c.in_ok-changes.changes.items ≡ stream_of c.in_ok-number.changes
-  copies = elim c.in_ok-changes.ensures.ok [ inl e ↦ ap (map change_value) e | inr z ↦ map-clone _ change_value (λ x y e. e) _ _ z ]
-
   known : is_known (delta_limit c.args.self.now.width c.args.self.now.height) c.args.self.now.log c.args.seq ≡ not c.is_owned-is_repaint.result
   known = elim (cases_Bool (is_known (delta_limit c.args.self.now.width c.args.self.now.height) c.args.self.now.log c.args.seq)) [
     | inl e ↦ elim (cases_Bool c.is_owned-is_repaint.result) [
@@ -69,20 +64,18 @@ invariant_of-result g c =
       fits = sound.fits;
       fits_height = sound.fits_height;
       ordered = ordered g c;
-      regions =
-          ap (regions_fit c.self.inside.height) (copies g c)
-          ∙ subst (λ (v : SurfaceValue _). regions_fit v.height (stream_of c.in_ok-number.changes) ≡ true) (sym c.self.view_is) c.in_ok-number.ensures.regions;
+      regions = subst (λ (v : SurfaceValue _). regions_fit v.height (stream_of c.in_ok-number.changes) ≡ true) (sym c.self.view_is) c.in_ok-number.ensures.regions;
     }
 
 pub returns-clause-given : goal.returns-clause-given
 returns-clause-given g c =
     let v = c.args.self.now in
-    is-given screens _ (screen_of v) v.log c.args.seq c.is_owned-is_repaint.result _ (width g c) (height g c) c.in_ok-number.ensures.number (base g c) (known g c) (subst (IsStream _ (screen_of v) v.log c.args.seq) (sym (copies g c)) c.in_ok-number.ensures.stream)
+    is-given screens _ (screen_of v) v.log c.args.seq c.is_owned-is_repaint.result _ (width g c) (height g c) c.in_ok-number.ensures.number (base g c) (known g c) c.in_ok-number.ensures.stream
 
 pub returns-clause-given_fully : goal.returns-clause-given_fully
 returns-clause-given_fully g c full =
     let v = c.args.self.now in
-    is-given full_screens _ (full_of v) v.log c.args.seq c.is_owned-is_repaint.result _ (width g c) (height g c) c.in_ok-number.ensures.number (base g c) (known g c) (subst (IsFullStream _ (full_of v) v.log c.args.seq) (sym (copies g c)) (c.in_ok-number.ensures.full full))
+    is-given full_screens _ (full_of v) v.log c.args.seq c.is_owned-is_repaint.result _ (width g c) (height g c) c.in_ok-number.ensures.number (base g c) (known g c) (c.in_ok-number.ensures.full full)
 
 pub returns-clause-carries : goal.returns-clause-carries
 returns-clause-carries g c past is = given-carries screens _ past _ _ _ _ is (returns-clause-given g c)
@@ -91,4 +84,4 @@ pub returns-clause-carries_fully : goal.returns-clause-carries_fully
 returns-clause-carries_fully g c full past is = given-carries full_screens _ past _ _ _ _ is (returns-clause-given_fully g c full)
 
 pub returns-clause-entries : goal.returns-clause-entries
-returns-clause-entries g c known = copies g c ∙ c.in_ok-number.ensures.entries known
+returns-clause-entries g c known = c.in_ok-number.ensures.entries known

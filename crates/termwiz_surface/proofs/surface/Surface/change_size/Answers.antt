@@ -1,12 +1,14 @@
-use Rattle.std.proofs.Common.{◌≡◌, ℕ, ◌+◌, ◌-◌, ◌<◌, ◌^◌, min, max, inl, List, length, get_or, refl, sym, ap, ap₂, ◌∙◌, subst, arith}
-use Rattle.std.specs.Prelude.{None, string_bytes}
+use Rattle.std.proofs.Common.{◌≡◌, ℕ, ◌+◌, ◌-◌, ◌<◌, ◌^◌, min, length, refl, sym, ap, ◌∙◌, subst, arith}
+use Rattle.std.specs.Prelude.{None, nat_le, string_bytes}
 use Rattle.termwiz_cell.specs.Measure.{measure}
 use Rattle.termwiz_screen.specs.ScreenValue.{cells_of}
 use Rattle.termwiz_screen.specs.Log.{next_number, restarted}
-use Rattle.termwiz_surface.specs.Surface.{SurfaceValue, numbers_over}
+use Rattle.termwiz_surface.specs.Resizing.{resize_touches}
+use Rattle.termwiz_surface.specs.Surface.{SurfaceValue}
 use Rattle.termwiz_screen.proofs.Logs.{restarted_fits}
 use Rattle.termwiz_screen.proofs.Sides.{sides-full}
 use Rattle.termwiz_screen.proofs.RowChanges.Resized.{length-resized_stored, stored-resized, lengths-resized, shown-resized}
+use Rattle.termwiz_surface.proofs.KeptRows.{resize-marks}
 use Rattle.termwiz_surface.proofs.surface.Surface.change_size.Goals as goal
 
 pub invariant_of-self-2 : goal.invariant_of-self-2
@@ -44,7 +46,9 @@ returns-clause-ok g c =
       full = refl;
       log = refl;
       mark = number_is;
-      rows = record { each = λ j l. inl (refl, c.renew.ensures.marked j l ∙ ap₂ (λ (m : ℕ) (numbers : List ℕ). max m (get_or numbers j 0)) number_is (ap₂ numbers_over c.in_ok-reserve.ensures.all c.in_ok-reserve.ensures.own)) };
+      rows = resize-marks (measure g.W.Widths.width_of s.widths) _ _ c.args.width c.args.height c.first_touched-first.result (record { space = g.met.W.Widths.space_has_one s.widths None }) c.requires.size.some_column form
+          (subst (λ (v : SurfaceValue _). (j : ℕ) → j < c.args.height → resize_touches v c.args.width j ≡ nat_le c.first_touched-first.result j) (sym c.self.view_is) c.first_touched-first.ensures.touched)
+          (rw (c.in_ok-reserve.ensures.all, c.in_ok-reserve.ensures.own, number_is) at c.renew.ensures.marked) refl refl c.in_ok-resize_rows.ensures.flags;
       screen_is = λ i. record {
         width = c.args.width;
         height = c.args.height;
@@ -62,6 +66,3 @@ returns-clause-ok g c =
         color = s.color;
       };
     })
-
-pub returns-clause-numbered : goal.returns-clause-numbered
-returns-clause-numbered g c = λ j l. omega (arith, c.renew.ensures.marked j l, c.next_number-self-inside.ensures)

@@ -36,7 +36,7 @@ returns-clause-ok g c =
       full = refl;
       log = refl;
       mark = refl;
-      rows = marks-range _ _ _ c.self.inside.y _ (range-from c.self.inside.height c.self.inside.y) c.mark_rows.ensures.marked
+      rows = marks-range _ _ _ c.self.inside.y _ (range-from c.self.inside.height c.self.inside.y) refl c.mark_rows.ensures.marked
           (λ j out. elim out [ inl before ↦ done.above j before | inr behind ↦ done.left j (omega (arith, behind, c.self.invariant.0.full, c.self.invariant.0.row)) ])
           (λ j out. ap (λ (fs : List LineFlags). get_or fs j no_flags) c.in_ok-fill_rows.ensures.sides.flags);
       screen_is = rw (rows-eos f _ (record { space = g.met.W.Widths.space_has_one c.self.inside.widths None }) c.self.invariant.0 (with_background c.args.color.now) (cells_of c.fill_rows.new.rows.items) done) refl;

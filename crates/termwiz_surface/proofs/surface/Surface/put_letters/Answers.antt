@@ -29,7 +29,7 @@ returns-clause-ok g c =
       mark = refl;
       rows = marks-alike _ _ _ _
           (λ j. run-touches (measure g.W.Widths.width_of c.self.inside.widths) encode_utf8 letter_cell set_letters (λ ls. 2 * length ls) letter_run j (chars c.args.run.now) _ c.requires.some fits (AllPrint-letters _ c.self.inside.pen (chars c.args.run.now) c.requires.letters wide))
-          (marks-set c.self.inside.y _ _ _ c.mark_row.ensures.marked refl refl);
+          (marks-set c.self.inside.y _ _ _ refl c.mark_row.ensures.marked refl refl);
       screen_is = (IsPrinted-letters (measure g.W.Widths.width_of c.self.inside.widths) (record { space = g.met.W.Widths.space_has_one c.self.inside.widths None }) (chars c.args.run.now) _ c.self.invariant.0 fits c.requires.letters wide).screen;
       kept_is = (IsPrinted-letters (measure g.W.Widths.width_of c.self.inside.widths) (record { space = g.met.W.Widths.space_has_one c.self.inside.widths None }) (chars c.args.run.now) _ c.self.invariant.0 fits c.requires.letters wide).kept;
     })

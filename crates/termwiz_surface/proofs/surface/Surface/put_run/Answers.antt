@@ -29,7 +29,7 @@ returns-clause-ok g c =
       mark = refl;
       rows = marks-alike _ _ _ _
           (λ j. run-touches (measure g.W.Widths.width_of c.self.inside.widths) (λ b. b ∷ []) plain_cell set_run length plain_run j c.args.run.now _ c.requires.some fits (AllPrint-plain _ c.self.inside.pen c.args.run.now c.requires.plain narrow))
-          (marks-set c.self.inside.y _ _ _ c.mark_row.ensures.marked refl refl);
+          (marks-set c.self.inside.y _ _ _ refl c.mark_row.ensures.marked refl refl);
       screen_is = (IsPrinted-plain (measure g.W.Widths.width_of c.self.inside.widths) (record { space = g.met.W.Widths.space_has_one c.self.inside.widths None }) c.args.run.now _ c.self.invariant.0 fits c.requires.plain narrow).screen;
       kept_is = (IsPrinted-plain (measure g.W.Widths.width_of c.self.inside.widths) (record { space = g.met.W.Widths.space_has_one c.self.inside.widths None }) c.args.run.now _ c.self.invariant.0 fits c.requires.plain narrow).kept;
     })

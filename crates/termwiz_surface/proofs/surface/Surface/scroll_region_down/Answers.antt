@@ -41,7 +41,7 @@ returns-clause-ok g c =
       full = refl;
       log = refl;
       mark = refl;
-      rows = marks-range _ _ _ c.args.first c.args.size (range-scroll _ c.args.first c.args.size c.args.count some) c.mark_rows.ensures.marked
+      rows = marks-range _ _ _ c.args.first c.args.size (range-scroll _ c.args.first c.args.size c.args.count some) refl c.mark_rows.ensures.marked
           (λ j out. down-outside _ (cells_of c.self.inside.rows.items) c.args.first c.args.size c.args.count j [] long out)
           (λ j out. rw c.in_ok-scroll_region_down.ensures.flags (down-outside no_flags (row_flags c.self.inside.rows.items) c.args.first c.args.size c.args.count j no_flags (omega (arith, long, length-map c.self.inside.rows.items (λ l. l.flags), length-cells_of c.self.inside.rows.items)) out));
       screen_is = rw (rows-down c.self.inside.width (cells_of c.self.inside.rows.items) c.args.first c.args.size c.args.count) refl;

@@ -40,7 +40,7 @@ returns-clause-ok g c =
       full = refl;
       log = refl;
       mark = refl;
-      rows = marks-one c.args.row _ _ c.mark_row.ensures.marked
+      rows = marks-one c.args.row _ _ refl c.mark_row.ensures.marked
           (set-outside (cells_of items) c.args.row row [])
           (set-outside (row_flags items) c.args.row no_flags no_flags);
       screen_is = rw (rows-set c.self.inside.width (cells_of items) c.args.row) refl;

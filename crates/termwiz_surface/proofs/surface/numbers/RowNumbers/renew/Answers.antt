@@ -1,7 +1,7 @@
-use Rattle.std.proofs.Common.{◌<◌, length, max, refl, ap, ◌∙◌, arith}
+use Rattle.std.proofs.Common.{◌<◌, max, refl, ◌∙◌, arith}
 use Rattle.std.proofs.lemmas.List.{get_or-take, length-map}
 use Rattle.termwiz_surface.specs.Surface.{numbers_over}
-use Rattle.termwiz_surface.proofs.RowNumbers.{comes-in, over-at}
+use Rattle.termwiz_surface.proofs.RowNumbers.{comes-in, renewed}
 use Rattle.termwiz_surface.proofs.surface.numbers.RowNumbers.renew.Goals as goal
 
 pub loop-row-init : goal.loop-row-init
@@ -27,7 +27,8 @@ loop-row-preserved c =
     }
 
 pub returns-clause-marked : goal.returns-clause-marked
-returns-clause-marked c = λ j l.
+returns-clause-marked c =
     let before = c.loop-row.invariant in
-    let there : j < length c.loop-row.self.own.items = omega (arith, before.len, c.loop-row.self.own.ok.0) in
-    rw before.all (over-at c.args.number c.loop-row.self.own.items j there ∙ ap (max c.args.number) (before.numbers j (omega arith)))
+    renewed c.args.height c.args.first c.args.number (numbers_over c.args.self.now.all c.args.self.now.own.items) c.loop-row.self.own.items _ c.requires.inside (omega (arith, before.len, c.loop-row.self.own.ok.0))
+    (λ j l. before.numbers j (omega arith))
+    (rw before.all at c.mark_rows.ensures.marked)

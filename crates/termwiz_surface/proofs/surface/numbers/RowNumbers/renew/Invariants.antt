@@ -8,7 +8,7 @@ abbrev pub invariant-loop-row : goal.invariant-loop-row
 invariant-loop-row l = record {
   numbers : (j : ℕ) → j < l._row → get_or l.self.own.items j 0 ≡ get_or (numbers_over l.fn.self.all l.fn.self.own.items) j 0;
   from : min l.height (vec_len l.fn.self.own) ≤ l._row;
-  all : l.self.all ≡ l.number;
+  all : l.self.all ≡ 0;
   len : vec_len l.self.own ≡ l._row;
   room : l.height ≤ vec_capacity l.self.own;
 }

@@ -1,7 +1,8 @@
 /* Workloads of crates/bench by way of C, each run COUNT times:
  *
  *     measure plain COUNT     a line of 80 characters and CR LF on 80x24
- *     measure answer COUNT    the bytes of a repaint of a coloured 80x24
+ *     measure answer COUNT    the bytes of a repaint of a coloured 80x24, which are kept
+ *     measure delta COUNT     the bytes of the changes that colour it, which are kept
  *     measure logged COUNT    a list of 100 pens, 100 moves and 100 texts of 8 columns
  *     measure unlogged COUNT  the same list, which isn't logged
  *     measure cells COUNT     the cells of a coloured 80x24, each by a call
@@ -11,8 +12,7 @@
  *     measure full COUNT      the same, where the oldest line goes for each new one after 100
  *
  * The program keeps no time: run it under callgrind at two counts, and take the difference. Beside
- * `plain` of the bench stands the first, and beside `answer-repaint` and `encode-repaint` together
- * the second, but that its surface is a full one. */
+ * `plain` of the bench stands the first. */
 #include "tikeburo.h"
 #include <stdio.h>
 #include <stdlib.h>
@@ -77,13 +77,24 @@ static tk_status add_colours(tk_handle *surface) {
     return status;
 }
 
-static tk_status answer(tk_handle *surface, long count, size_t *result) {
-    static const uint8_t ask[] = {0x83, 2, 0, 0}; /* of a client that shows nothing */
+/* Answers an ask of four bytes. */
+static tk_status respond(tk_handle *surface, const uint8_t ask[4], long count, size_t *result) {
     static uint8_t bytes[1 << 14];
     tk_status status = add_colours(surface);
     for (long i = 0; i < count && status == TK_DONE; i++)
-        status = tk_respond(surface, ask, sizeof ask, bytes, sizeof bytes, result);
+        status = tk_respond(surface, ask, 4, bytes, sizeof bytes, result);
     return status;
+}
+
+static tk_status answer(tk_handle *surface, long count, size_t *result) {
+    static const uint8_t ask[4] = {0x83, 2, 0, 0}; /* of a client that shows nothing */
+    return respond(surface, ask, count, result);
+}
+
+static tk_status delta(tk_handle *surface, long count, size_t *result) {
+    static const uint8_t ask[4] = {0x83, 2, 1, 1}; /* of one that shows the first change */
+    tk_status status = print(surface, "\r");
+    return status != TK_DONE ? status : respond(surface, ask, count, result);
 }
 
 /* Pens, moves and texts in turn, over the whole screen. */
@@ -150,14 +161,15 @@ int main(int words, char **word) {
     static const struct {
         const char *name;
         workload *run;
-    } all[] = {{"plain", plain}, {"answer", answer}, {"logged", logged},
-               {"cells", cells}, {"rows", rows},     {"unlogged", unlogged},
-               {"quiet", quiet}, {"kept", kept},     {"full", full}};
+    } all[] = {{"plain", plain}, {"answer", answer}, {"delta", delta}, {"logged", logged},
+               {"cells", cells}, {"rows", rows},     {"quiet", quiet}, {"unlogged", unlogged},
+               {"kept", kept},   {"full", full}};
     size_t which = 0, kinds = sizeof all / sizeof *all;
     while (words == 3 && which < kinds && strcmp(word[1], all[which].name) != 0)
         which++;
     if (words != 3 || which == kinds) {
-        fputs("usage: measure plain|answer|logged|unlogged|cells|rows|quiet|kept|full COUNT\n",
+        fputs("usage: measure plain|answer|delta|logged|unlogged|cells|rows|quiet|kept|full "
+              "COUNT\n",
               stderr);
         return 2;
     }

@@ -229,6 +229,22 @@ static void test_changed_rows(void) {
     }
 }
 
+/* A resize that keeps the width changes the rows that it adds, and any other all rows. */
+static void test_changed_rows_of_resizes(void) {
+    static const uint8_t added[3] = {0, 0, 1}, all[3] = {1, 1, 1};
+    tk_handle surface = made(4, 2);
+    uint8_t rows[3];
+    size_t since = 0, count = 0;
+    CHECK(print(&surface, "a\r\nb") == TK_DONE && tk_number(&surface, &since) == TK_DONE);
+    CHECK(tk_resize(&surface, 4, 3) == TK_DONE);
+    CHECK(tk_changed_rows(&surface, since, rows, 3, &count) == TK_DONE && count == 3);
+    CHECK(memcmp(rows, added, 3) == 0 && tk_number(&surface, &since) == TK_DONE);
+    CHECK(tk_resize(&surface, 5, 3) == TK_DONE);
+    CHECK(tk_changed_rows(&surface, since, rows, 3, &count) == TK_DONE && count == 3);
+    CHECK(memcmp(rows, all, 3) == 0);
+    tk_free(&surface);
+}
+
 static bool changed_since(tk_handle *handle, size_t since, const uint8_t wanted[2]) {
     uint8_t rows[2];
     size_t count = 0;
@@ -274,6 +290,7 @@ int main(void) {
     test_shown_rows();
     test_changes();
     test_changed_rows();
+    test_changed_rows_of_resizes();
     test_changed_rows_of_followers();
     printf("%d checks\n", checks);
     return failures != 0;

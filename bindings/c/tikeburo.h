@@ -271,9 +271,9 @@ tk_status tk_pen_link(tk_handle *handle, char *uri, size_t room, size_t *len);
 tk_status tk_pen_link_param(tk_handle *handle, size_t index, char *key, size_t key_room,
                             size_t *key_len, char *value, size_t value_room, size_t *value_len);
 
-/* For each row from the top 1 if it may differ from what it was when what is shown had the number
+/* For each row from the top 1 if it may show something else than when what is shown had the number
  * since (tk_number), in its cells or in how large it is shown, and 0 if it doesn't: *count rows.
- * Each row may differ where since is 0. TK_SHORT. */
+ * Each row may where since is 0. TK_SHORT. */
 tk_status tk_changed_rows(tk_handle *handle, size_t since, uint8_t *rows, size_t room,
                           size_t *count);
 
@@ -771,7 +771,8 @@ static inline tk_status tk_follow(tk_handle *viewer, tk_handle *source) {
  * number that the client shows, where it shows this surface. The ask is that of tk_client_ask, and
  * nothing after it. What no answer can need is forgotten. TK_TRUNCATED: the bytes end before the
  * ask does. TK_UNREADABLE: they are wrong at a byte, or more follow the ask. TK_WRONG_KIND.
- * TK_SHORT: the answer is not kept, and the next call makes it anew. */
+ * TK_SHORT: the answer is kept, and is not made anew for the same ask while the surface stays as it
+ * is. */
 tk_status tk_respond(tk_handle *surface, const uint8_t *ask, size_t ask_len, uint8_t *bytes,
                      size_t room, size_t *len);
 

@@ -434,7 +434,7 @@ impl Surface {
         self.handle.number(ffi::tk_number).unwrap_or_default()
     }
 
-    /// For each row from the top whether it may differ from what it was when the surface had this
+    /// For each row from the top whether it may show something else than when the surface had this
     /// [number](Surface::current_seqno), in its cells or in how large it is shown. Each row may
     /// where that is 0.
     ///
@@ -497,7 +497,7 @@ impl Surface {
     pub fn respond(&mut self, ask: &Ask) -> Result<Vec<u8>, Error> {
         let handle = self.handle.get();
         let ask = ask.as_bytes();
-        // Room for most answers, since a second call would make the answer anew.
+        // Room for most answers. A longer one is made once, and a second call copies it.
         let mut front = [0; 1 << 14];
         // Safety: the handle is live, the ask is only read, and the buffer has the room that is
         // named.

@@ -4,7 +4,7 @@ use std::alloc::{AllocError, Global};
 use termwiz_cell::change::SequenceNo;
 use termwiz_cell::emoji::UnicodeWidths;
 use termwiz_surface::surface::{Answer, Surface, SurfaceError};
-use termwiz_wire::{Limits, SentAnswer, decode_answer, encode_answer, encoded_len};
+use termwiz_wire::{Limits, SentAnswer, decode_answer, encode_answer};
 
 // The source that answers name.
 const SOURCE: usize = 1;
@@ -64,23 +64,22 @@ fn len_of(alloc: Global, make: Make, surface: &Screen, other: &Screen) -> Sum {
 pub fn coded(alloc: Global, decodes: bool, count: u32) -> Sum {
     let surface = begun(alloc, Start::Text(Pens::Ten), None)?;
     let answer = surface.answer(0)?;
-    let bytes = bytes_of(alloc, &answer)?;
+    let bytes = bytes_of(alloc, &answer, 0)?;
     let mut sum = 0usize;
     for _ in 0..count {
         let len = if decodes {
             answer_of(alloc, bytes.as_slice())?.answer.changes().len()
         } else {
-            bytes_of(alloc, &answer)?.len()
+            bytes_of(alloc, &answer, bytes.len())?.len()
         };
         sum = sum.wrapping_add(len);
     }
     Ok(sum)
 }
 
-/// The bytes of an answer, for which room is taken once.
-pub fn bytes_of(alloc: Global, answer: &Answer) -> Result<Vec<u8>, AllocError> {
-    let len = encoded_len(&UnicodeWidths, SOURCE, answer);
-    let mut bytes = Vec::with_capacity(alloc, len)?;
+/// The bytes of an answer, for which this room is taken at first.
+pub fn bytes_of(alloc: Global, answer: &Answer<'_>, room: usize) -> Result<Vec<u8>, AllocError> {
+    let mut bytes = Vec::with_capacity(alloc, room)?;
     encode_answer(&mut bytes, &UnicodeWidths, SOURCE, answer)?;
     Ok(bytes)
 }

@@ -62,7 +62,7 @@ fn accept(surface: &Screen, viewer: &mut Reader) -> Done {
 // The viewer is answered by bytes, and accepts what they say.
 fn deliver(alloc: Global, surface: &Screen, viewer: &mut Reader) -> Done {
     let answer = surface.answer(viewer.last())?;
-    let bytes = bytes_of(alloc, &answer)?;
+    let bytes = bytes_of(alloc, &answer, 64)?;
     let received = answer_of(alloc, bytes.as_slice())?;
     viewer
         .accept(&received.answer)

@@ -1,5 +1,5 @@
 -- What the numbers of a surface named they name still, after one call and another.
-use Rattle.std.proofs.Common.{◌≡◌, ℕ, List, subst, ◌∙◌, arith}
+use Rattle.std.proofs.Common.{◌≡◌, ℕ, List, refl, subst, ◌∙◌, arith}
 use Rattle.termwiz_screen.specs.Picture.{Pictures, full_screens, screens}
 use Rattle.termwiz_surface.specs.History.{KeepsNames, NamesGoOn}
 use Rattle.termwiz_surface.specs.Surface.{SurfaceValue}
@@ -15,6 +15,13 @@ module _ {P : Type 0} (pictures : Pictures P) {W : Type 0} (measure : List ℕ �
         grows = omega (arith, one.grows, two.grows);
         is_past = two.is_past;
       }
+
+-- a surface that stays as it is
+stay : {P : Type 0} (pictures : Pictures P) {W : Type 0} (measure : List ℕ → ℕ) (s : SurfaceValue W) → NamesGoOn pictures measure s s
+stay pictures measure s past is = record { later = past; alike = λ k le. refl; grows = omega (arith); is_past = is }
+
+pub names-same : {W : Type 0} (measure : List ℕ → ℕ) (s : SurfaceValue W) → KeepsNames measure s s
+names-same measure s = record { screen = stay screens measure s; full = stay full_screens measure s }
 
 names-then : {W : Type 0} (measure : List ℕ → ℕ) (r s t : SurfaceValue W) → KeepsNames measure r s → KeepsNames measure s t → KeepsNames measure r t
 names-then measure r s t first then =

@@ -61,7 +61,7 @@ module _ (measure : List ℕ → ℕ) (limits : Limits) (kept piece : List ℕ) 
     taken = rw more.hand (omega (arith, leads.taken, length-append (take limits.bytes kept) extra));
     spent = leads.spent;
     borne = leads.borne;
-    link = leads.link;
+    next = leads.next;
     same = λ near room all.
         let e : take limits.bytes (kept ++ piece) ++ near ≡ take limits.bytes kept ++ (extra ++ near) = ap (λ (t : List ℕ). t ++ near) more.hand ∙ append_assoc (take limits.bytes kept) extra near in
         ap (answer_in measure room limits) e ∙ leads.same (extra ++ near) room (omega (arith, length-append extra near, more.sums (length near) room all)) ∙ ap (resumed_in measure room b) (sym e);

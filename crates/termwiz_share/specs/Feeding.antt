@@ -1,11 +1,17 @@
 -- What a client makes of the bytes that it is fed.
-use Rattle.std.specs.Prelude.{◌≡◌, ◌≢◌, ◌⊎◌, ℕ, ◌+◌, ◌≤◌, ◌^◌, true, false, Option, Some, None, List, [], ◌∷◌, ◌++◌, length, Result, Ok, Err, if◌then◌else◌}
+use Rattle.std.specs.Prelude.{◌≡◌, ◌≢◌, ◌⊎◌, ℕ, ◌+◌, ◌≤◌, ◌^◌, true, false, Option, Some, None, IfSome, List, [], ◌∷◌, ◌++◌, drop, length, Result, Ok, Err, if◌then◌else◌}
 use Rattle.cbor.specs.declared.error.FaultKind.TheVariants.{Truncated}
 use Rattle.termwiz_screen.specs.Log.{next_number}
 use Rattle.termwiz_surface.specs.Answer.{is_repaint}
 use Rattle.termwiz_wire.specs.Answers.{answer_at}
+use Rattle.termwiz_wire.specs.Lent.{lent_answer}
+use Rattle.termwiz_wire.specs.Resuming.{HasBegun, LeadsOn}
+use Rattle.termwiz_wire.specs.declared.decode.begun.Begun.{Begun}
 use Rattle.termwiz_wire.specs.declared.fault.Fault.{Fault}
 use Rattle.termwiz_wire.specs.declared.fault.Limits.{Limits}
+use Rattle.termwiz_wire.specs.declared.fault.WireError.{WireError}
+use Rattle.termwiz_wire.specs.declared.fault.WireError.TheVariants as wire_errors
+use Rattle.termwiz_wire.specs.declared.sent.LentAnswer.{LentAnswer}
 use Rattle.termwiz_wire.specs.declared.sent.SentAnswer.{SentAnswer}
 use Rattle.termwiz_share.specs.Client.{ClientValue, DisplayValue, SameSettings, Shown, display_of, fits, has_other_size, shown_by, shown_on, size_place, stale_place, taken}
 use Rattle.termwiz_share.specs.declared.error.ClientError.{ClientError}
@@ -27,6 +33,23 @@ module _ (measure : List ℕ → ℕ) (limits : Limits) where
     pub fault : Fault
     pub is : answer_at measure limits bytes ≡ Err fault
     pub cut : fault.kind ≡ Truncated
+
+  -- an answer is decoded, or the bytes make no whole one, or it has a fault, or memory is refused
+  abbrev pub DecodesNext : List ℕ → Result (Option (LentAnswer × ℕ)) WireError → Type 0
+  DecodesNext bytes (Ok (Some x)) =
+      answer_at measure limits bytes ≡ Ok (lent_answer x.0, drop x.1 bytes)
+  DecodesNext bytes (Ok None) = AreCut bytes
+  DecodesNext bytes (Err (wire_errors.Fault f)) =
+      (answer_at measure limits bytes ≡ Err f) × (f.kind ≢ Truncated)
+  DecodesNext bytes (Err wire_errors.Memory) = Unit {0}
+
+  -- where they make no whole one, all that they have whole is begun, and leads on, and else nothing
+  -- is
+  abbrev pub HasBegunNext :
+      List ℕ → Result (Option (LentAnswer × ℕ)) WireError → Option Begun → Type 0
+  HasBegunNext bytes (Ok None) begun =
+      IfSome begun (λ b. LeadsOn measure limits b bytes) × HasBegun measure limits begun bytes
+  HasBegunNext bytes _ begun = begun ≡ None
 
 -- an answer of another size stops a client
 abbrev pub refusal : Option ClientError → ClientError → Option ClientError

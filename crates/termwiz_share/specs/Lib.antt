@@ -1,4 +1,5 @@
 pub mod Source
+pub mod Responses
 pub mod Client
 pub mod Feeding
 pub mod Histories
@@ -24,10 +25,11 @@ pub use Rattle.termwiz_surface.specs.Surface.{IsSurfaceSize, SurfaceValue, blank
 pub use Rattle.termwiz_surface.specs.declared.surface.SurfaceError.TheVariants.{ScrollRegion}
 pub use Rattle.termwiz_wire.specs.Answers.{answer_at}
 pub use Rattle.termwiz_wire.specs.Lent.{lent_answer}
-pub use Rattle.termwiz_wire.specs.Sent.{IsAsk, ask}
+pub use Rattle.termwiz_wire.specs.Sent.{IsAsk, IsSent, ask}
 pub use Rattle.termwiz_wire.specs.declared.fault.Fault.{Fault}
-pub use Rattle.termwiz_share.specs.Source.{Answers, IsResponse, Responds, SourceValue, most_bytes, response_bytes, sent_by, trimmed}
+pub use Rattle.termwiz_share.specs.Source.{IsResponse, PutsAnswer, PutsDelta, Responds, IsWritten, SourceValue, bytes_of, most_bytes, number_asked, repaint_of, response_bytes, sent_by, source_of, trimmed}
+pub use Rattle.termwiz_share.specs.Responses.{HasResponses, chosen, delta_part}
 pub use Rattle.termwiz_share.specs.Client.{ClientValue, DisplayValue, IsReady, ask_of, fits, shown_by, shown_on, size_place, stale_place}
-pub use Rattle.termwiz_share.specs.Feeding.{EndsHere, Feeds, Keeps, Reads, Steps, Takes, TakesNext, nameless, refusal}
+pub use Rattle.termwiz_share.specs.Feeding.{DecodesNext, EndsHere, Feeds, HasBegunNext, Keeps, Reads, Steps, Takes, TakesNext, nameless, refusal}
 pub use Rattle.termwiz_share.specs.Histories.{Follows, FollowsNext, FollowsTo, Given, HasGiven}
 pub use Rattle.termwiz_share.specs.Serving.{KeepsClients, KeepsSources, Serves, Shows}

@@ -1,15 +1,15 @@
 -- What contracts see of a source, and what it answers.
-use Rattle.std.specs.Prelude.{◌≡◌, ◌⊎◌, ℕ, ◌+◌, ◌*◌, ◌<◌, ◌≤◌, ◌^◌, ◌==◌, ◌&&◌, nat_le, Bool, List, ◌++◌, length, max, if◌then◌else◌}
+use Rattle.std.specs.Prelude.{◌≡◌, ◌⊎◌, ℕ, ◌+◌, ◌-◌, ◌*◌, ◌<◌, ◌≤◌, ◌^◌, ◌==◌, ◌&&◌, nat_le, Bool, true, false, List, ◌++◌, drop, length, max, if◌then◌else◌}
 use Rattle.termwiz_screen.specs.FullScreen.{FullScreen, HasFullSize}
-use Rattle.termwiz_screen.specs.Log.{delta_limit, due, next_number}
+use Rattle.termwiz_screen.specs.Log.{delta_limit, next_number}
 use Rattle.termwiz_screen.specs.Picture.{full_screens}
 use Rattle.termwiz_surface.specs.Adding.{with_log}
-use Rattle.termwiz_surface.specs.Answer.{AnswerValue}
+use Rattle.termwiz_surface.specs.Answer.{AnswerValue, delta_of}
 use Rattle.termwiz_surface.specs.Asking.{forgotten, knows, own_repaint}
 use Rattle.termwiz_surface.specs.Carried.{CarriesTo, IsGivenBy, IsPastOf}
 use Rattle.termwiz_surface.specs.Surface.{SurfaceValue, full_of}
 use Rattle.termwiz_wire.specs.Sent.{IsSent, answer}
-use Rattle.termwiz_wire.specs.Within.{IsBorne}
+use Rattle.termwiz_wire.specs.Within.{IsBorne, answer_work}
 use Rattle.termwiz_wire.specs.Work.{most_work, work_of}
 use Rattle.termwiz_wire.specs.declared.sent.Ask.{Ask}
 use Rattle.termwiz_wire.specs.declared.sent.SentAnswer.{SentAnswer}
@@ -19,6 +19,13 @@ pub record SourceValue (W : Type 0) : Type 0 where
   pub surface : SurfaceValue W
   -- the number that names it
   pub number : ℕ
+
+-- bytes are written to the front of a buffer, unless it is shorter
+abbrev pub IsWritten : List ℕ → List ℕ → ℕ → List ℕ → Type 0
+IsWritten bytes old len new =
+    (len ≡ length bytes) ×
+    (len ≤ length old → new ≡ bytes ++ drop len old) ×
+    (length old < len → new ≡ old)
 
 -- an answer of this source
 abbrev pub sent_by : ℕ → AnswerValue → SentAnswer
@@ -34,6 +41,10 @@ abbrev pub number_asked : ℕ → Ask → ℕ
 number_asked source ask = if ask.source == source then ask.number else 0
 
 module _ {W : Type 0} where
+  -- a source that has this number
+  abbrev pub source_of : ℕ → SurfaceValue W → SourceValue W
+  source_of number surface = record { surface = surface; number = number }
+
   -- the surface without the changes that no answer needs
   abbrev pub trimmed : SurfaceValue W → SurfaceValue W
   trimmed s = with_log s (forgotten (delta_limit s.width s.height) s.log)
@@ -49,21 +60,25 @@ module _ {W : Type 0} where
         changes = own_repaint s;
       }
 
-  -- the changes that are due from a number on
-  abbrev pub delta_of : SurfaceValue W → ℕ → AnswerValue
-  delta_of s n =
-      record {
-        width = s.width;
-        height = s.height;
-        base = n;
-        number = next_number s.log;
-        changes = due s.log n;
-      }
-
   module _ (measure_of : W → List ℕ → ℕ) where
     -- an answer of the source as bytes
     abbrev pub bytes_of : SourceValue W → AnswerValue → List ℕ
     bytes_of s a = answer (measure_of s.surface.widths) (sent_by s.number a)
+
+    -- a delta is appended, which has no more bytes than this and costs no more than the screen
+    -- bears, or none is, since there is no such one
+    abbrev pub PutsDelta : SourceValue W → ℕ → ℕ → List ℕ → Bool → List ℕ → Type 0
+    PutsDelta s n most before true after =
+        (knows s.surface n ≡ true) × (length (bytes_of s (delta_of s.surface n)) ≤ most) ×
+        IsBorne (sent_by s.number (delta_of s.surface n)) ×
+        IsSent (measure_of s.surface.widths) (sent_by s.number (delta_of s.surface n)) ×
+        (after ≡ before ++ bytes_of s (delta_of s.surface n))
+    PutsDelta s n most before false after =
+        (after ≡ before) ×
+        ((knows s.surface n ≡ false) ⊎
+        (most_work s.surface.width s.surface.height <
+        answer_work (sent_by s.number (delta_of s.surface n))) ⊎
+        ((most < length (bytes_of s (delta_of s.surface n))) × (most < 2 ^ 64 - 1)))
 
     -- whether a delta is worth sending: it has few bytes, and the screen bears its changes
     abbrev pub is_worth : SourceValue W → AnswerValue → Bool
@@ -82,6 +97,26 @@ module _ {W : Type 0} where
     -- and for an ask, as bytes
     abbrev pub response_bytes : SourceValue W → Ask → List ℕ
     response_bytes s ask = bytes_of s (given_for s (number_asked s.number ask))
+
+    -- the source gives this answer for a number, or for none
+    pub record Answers (s : SourceValue W) (n : ℕ) (given : AnswerValue) : Type 0 where
+      pub asked : ℕ
+      pub from : (asked ≡ 0) ⊎ (asked ≡ n)
+      pub is_given : IsGivenBy full_screens measure_of s.surface asked given
+      pub sized : HasFullSize s.surface.width s.surface.height (full_of s.surface)
+      -- a screen bounds it
+      pub few :
+          length (bytes_of s given) ≤ max (most_bytes s.surface.width s.surface.height)
+          (length (bytes_of s (repaint_of s.surface)))
+      pub chosen : given ≡ given_for s n
+      pub borne : IsBorne (sent_by s.number given)
+
+    -- its bytes come behind what the buffer had
+    pub record PutsAnswer (s : SourceValue W) (n : ℕ) (before after : List ℕ) : Type 0 where
+      pub given : AnswerValue
+      pub answers : Answers s n given
+      pub put : after ≡ before ++ bytes_of s given
+      pub form : IsSent (measure_of s.surface.widths) (sent_by s.number given)
 
     -- the bytes are those of an answer for this ask: it leads to the full screen that the source
     -- has now, from the picture that the ask names or from none
@@ -102,20 +137,6 @@ module _ {W : Type 0} where
           length bytes ≤ max (most_bytes s.surface.width s.surface.height)
           (length (bytes_of s (repaint_of s.surface)))
       -- and bears it
-      pub borne : IsBorne (sent_by s.number given)
-
-    -- the source gives this answer for a number, or for none
-    pub record Answers (s : SourceValue W) (n : ℕ) (given : AnswerValue) : Type 0 where
-      pub asked : ℕ
-      pub from : (asked ≡ 0) ⊎ (asked ≡ n)
-      pub is_given : IsGivenBy full_screens measure_of s.surface asked given
-      pub sized : HasFullSize s.surface.width s.surface.height (full_of s.surface)
-      -- a screen bounds it, if a buffer can have it
-      pub few :
-          length (bytes_of s given) < 2 ^ 64 →
-          length (bytes_of s given) ≤ max (most_bytes s.surface.width s.surface.height)
-          (length (bytes_of s (repaint_of s.surface)))
-      pub chosen : length (bytes_of s given) < 2 ^ 64 → given ≡ given_for s n
       pub borne : IsBorne (sent_by s.number given)
 
     -- the response comes behind what the buffer had

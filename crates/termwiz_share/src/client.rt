@@ -1,9 +1,10 @@
 //! Clients: what takes the answers of sources, and shows what they had.
-ghost use Rattle.std.specs.Prelude.{◌≡◌, ◌<◌, ◌^◌, ◌++◌, [], IfOk, IsSome, List, None, Ok, OnErr};
-ghost use Rattle.std.specs.Prelude.{OnOk, Some, length, ℕ};
+ghost use Rattle.std.specs.Prelude.{◌≡◌, ◌<◌, ◌≤◌, ◌^◌, ◌++◌, [], IfOk, IfSome, IsSome, List, None};
+ghost use Rattle.std.specs.Prelude.{Ok, OnErr, OnOk, Some, drop, length, ℕ};
+ghost use Rattle.termwiz_wire.specs.Resuming.{LeadsOn};
 ghost use Rattle.termwiz_share.specs.{ClientValue, EndsHere, Feeds, Follows, FollowsNext};
 ghost use Rattle.termwiz_share.specs.{FollowsTo, FullScreen, Given, HasGiven, IsAsk, IsReady};
-ghost use Rattle.termwiz_share.specs.{IsResponse, Keeps};
+ghost use Rattle.termwiz_share.specs.{DecodesNext, HasBegunNext, IsResponse, IsSurfaceSize, Keeps};
 ghost use Rattle.termwiz_share.specs.{KeepsSources, NumbersRows, Reads, Serves, Shows};
 ghost use Rattle.termwiz_share.specs.{SourceValue, Steps, TakesNext};
 ghost use Rattle.termwiz_share.specs.{ask, ask_of, blank_surface, measure, refusal, true};
@@ -20,8 +21,8 @@ use termwiz_cell::change::SequenceNo;
 use termwiz_cell::emoji::Widths;
 use termwiz_surface::Surface;
 use termwiz_wire::{
-    Ask, Begun, Limits, NoAnswer, SourceNo, WireError, answers, decode_answer, decode_more,
-    encode_ask,
+    Ask, Begun, LentAnswer, Limits, NoAnswer, SourceNo, WireError, answers, decode_answer,
+    decode_more, encode_ask,
 };
 
 /// Shows what a source showed when it gave the last answer that was taken.
@@ -190,7 +191,7 @@ impl<W: Widths> Client<W> {
             IsReady self.old →
             IsResponse (measure W.width_of) source (ask_of self.old) piece.now →
             Serves (measure W.width_of) source self.new }
-        // A row whose number isn't above one that the client's surface had is as it was then.
+        // A row whose number isn't above one that the client's surface had shows what it did then.
         ensures numbered { NumbersRows self.old.surface self.new.surface }
     {
         answers();
@@ -247,7 +248,7 @@ impl<W: Widths> Client<W> {
         ensures some { 0 < self.old.limits.bytes }
         ensures shorter { IfOk result (λ taken. IsSome taken →
             length self.new.kept < length self.old.kept) }
-        // A row whose number isn't above one that the client's surface had is as it was then.
+        // A row whose number isn't above one that the client's surface had shows what it did then.
         ensures numbered { NumbersRows self.old.surface self.new.surface }
     {
         answers();
@@ -286,10 +287,9 @@ impl<W: Widths> Client<W> {
             return Ok(None);
         }
         let widths = self.display.surface().widths();
-        let begun = self.begun.take();
         let bytes = &self.bytes[self.start..];
-        match decode_more(self.alloc, &widths, self.limits, begun, bytes) {
-            Ok((answer, count)) => match self.display.take(answer) {
+        match decode_next(self.alloc, &widths, self.limits, &mut self.begun, bytes) {
+            Ok(Some((answer, count))) => match self.display.take(answer) {
                 Ok(taken) => {
                     self.start += count;
                     Ok(Some(taken))
@@ -299,12 +299,9 @@ impl<W: Widths> Client<W> {
                     Err(error)
                 }
             },
-            Err(NoAnswer::Cut(begun)) => {
-                self.begun = begun;
-                Ok(None)
-            }
-            Err(NoAnswer::Failed(WireError::Memory)) => Err(ClientError::Memory),
-            Err(NoAnswer::Failed(WireError::Fault(fault))) => {
+            Ok(None) => Ok(None),
+            Err(WireError::Memory) => Err(ClientError::Memory),
+            Err(WireError::Fault(fault)) => {
                 let error = ClientError::Fault(fault);
                 self.stopped = Some(error);
                 Err(error)
@@ -324,6 +321,37 @@ impl<W: Widths> Client<W> {
             count += 1;
         }
         Ok(count)
+    }
+}
+
+// Decodes the answer that the bytes begin, from what is begun of it, or returns `None` where they
+// make no whole one. Then all of it that they have whole is begun, and else nothing is.
+fn decode_next<'a, W: Widths>(
+    alloc: Global,
+    widths: &W,
+    limits: Limits,
+    begun: &mut Option<Begun>,
+    bytes: &'a [u8],
+) -> Result<Option<(LentAnswer<'a>, usize)>, WireError>
+    requires leads { IfSome begun.old
+        (λ b. LeadsOn (measure W.width_of widths.now) limits b bytes.now) }
+    ensures exact { DecodesNext (measure W.width_of widths.now) limits bytes.now result }
+    ensures begun { HasBegunNext (measure W.width_of widths.now) limits bytes.now
+        result begun.new }
+    ensures within { IfOk result (λ next. IfSome next (λ x. x.1 ≤ length bytes.now)) }
+    ensures shorter { IfOk result (λ next. IfSome next (λ x.
+        length (drop x.1 bytes.now) < length bytes.now)) }
+    ensures named { IfOk result (λ next. IfSome next (λ x. 0 < x.0.source)) }
+    ensures sized { IfOk result (λ next. IfSome next (λ x.
+        IsSurfaceSize x.0.width x.0.height)) }
+{
+    match decode_more(alloc, widths, limits, begun.take(), bytes) {
+        Ok(next) => Ok(Some(next)),
+        Err(NoAnswer::Cut(more)) => {
+            *begun = more;
+            Ok(None)
+        }
+        Err(NoAnswer::Failed(error)) => Err(error),
     }
 }
 

@@ -13,6 +13,7 @@
 
 mod client;
 mod error;
+mod responses;
 mod source;
 mod store;
 mod taken;

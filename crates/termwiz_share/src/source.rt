@@ -1,24 +1,25 @@
 //! Sources: full surfaces whose answers name them.
 ghost use Rattle.std.specs.Prelude.{◌≡◌, ◌≢◌, ◌+◌, ◌-◌, ◌<◌, ◌≤◌, ◌^◌, ◌∷◌, ◌++◌, [], Err, IfOk};
 ghost use Rattle.std.specs.Prelude.{List, OnErr, OnOk, ℕ, min, vec_len};
-ghost use Rattle.termwiz_share.specs.{Adds, AddsScrolledOff, AddsUnlogged, Answers, ClientValue};
+ghost use Rattle.termwiz_share.specs.{Adds, AddsScrolledOff, AddsUnlogged, ClientValue};
 ghost use Rattle.termwiz_share.specs.{HasCopied, HasDrawn, IsCopied, IsDrawn, IsRegionDrawn};
-ghost use Rattle.termwiz_share.specs.{IsResponse};
+ghost use Rattle.termwiz_share.specs.{IsResponse, IsWritten, number_asked};
 ghost use Rattle.termwiz_share.specs.{IsSurfaceSize, KeepsClients, KeepsNames, KeepsViewers};
 ghost use Rattle.termwiz_share.specs.{NumbersRows};
 ghost use Rattle.termwiz_share.specs.{Resizes, Responds, ScrollRegion, Serves, SourceValue};
 ghost use Rattle.termwiz_share.specs.{blank_surface, flushed, lent_value};
 ghost use Rattle.termwiz_share.specs.{change_value, copied_region, length, map, measure};
-ghost use Rattle.termwiz_share.specs.{most_bytes, next_number, response_bytes};
+ghost use Rattle.termwiz_share.specs.{next_number, response_bytes};
 ghost use Rattle.termwiz_share.specs.{kept_of, rows_scrolled_off, screen_of, spare_lines, trimmed};
 ghost use Rattle.termwiz_share.specs.{true, with_log};
 
+use crate::responses::Responses;
 use std::alloc::{AllocError, Global};
 use std::marker::Model;
 use termwiz_cell::change::{Change, SEQ_ZERO, SequenceNo};
 use termwiz_cell::emoji::Widths;
-use termwiz_surface::{Answer, LentChange, Scrollback, Surface, SurfaceError};
-use termwiz_wire::{Ask, SourceNo, encode_answer, encoded_len, is_borne};
+use termwiz_surface::{LentChange, Scrollback, Surface, SurfaceError};
+use termwiz_wire::{Ask, SourceNo};
 
 /// A full surface that clients show, with a number that names it among all sources that a client
 /// may hear of: one of 64 random bits serves.
@@ -29,17 +30,22 @@ use termwiz_wire::{Ask, SourceNo, encode_answer, encoded_len, is_borne};
 pub struct Source<W: Widths> {
     surface: Surface<W>,
     number: SourceNo,
+    // The answers that were asked for since it changed.
+    responses: Responses,
 }
 
 impl<W: Widths> Model for Source<W> {
     ghost use Rattle.std.specs.Prelude.{◌≡◌, ◌<◌, true};
+    ghost use Rattle.termwiz_cell.specs.Measure.{measure};
+    ghost use Rattle.termwiz_share.specs.Responses.{HasResponses};
     ghost use Rattle.termwiz_share.specs.Source.{SourceValue};
 
     ghost Value = { SourceValue W };
 
     ghost view = { λ s. record { surface = s.surface; number = s.number } };
 
-    ghost invariant = { λ s. (s.surface.full ≡ true) × (0 < s.number) };
+    ghost invariant = { λ s. (s.surface.full ≡ true) × (0 < s.number)
+        × HasResponses (measure W.width_of) (view s) s.responses };
 }
 
 impl<W: Widths> Source<W> {
@@ -64,7 +70,11 @@ impl<W: Widths> Source<W> {
             Serves (measure W.width_of) source client) }
     {
         let surface = Surface::new_full(alloc, width, height, widths)?;
-        Ok(Source { surface, number })
+        Ok(Source {
+            surface,
+            number,
+            responses: Responses::new(alloc),
+        })
     }
 
     /// What the source shows.
@@ -96,9 +106,10 @@ impl<W: Widths> Source<W> {
             self.old.surface self.new.surface }
         // Each viewer that follows the surface still follows it, even after an error.
         ensures followed { KeepsViewers (measure W.width_of) self.old.surface self.new.surface }
-        // A row whose number isn't above one that the surface had is as it was then.
+        // A row whose number isn't above one that the surface had shows what it did then.
         ensures numbered { NumbersRows self.old.surface self.new.surface }
     {
+        self.responses.clear();
         self.surface.forget_unneeded();
         self.surface.add_change(change)
     }
@@ -116,9 +127,10 @@ impl<W: Widths> Source<W> {
             self.old.surface self.new.surface }
         // Each viewer that follows the surface still follows it, even after an error.
         ensures followed { KeepsViewers (measure W.width_of) self.old.surface self.new.surface }
-        // A row whose number isn't above one that the surface had is as it was then.
+        // A row whose number isn't above one that the surface had shows what it did then.
         ensures numbered { NumbersRows self.old.surface self.new.surface }
     {
+        self.responses.clear();
         self.surface.forget_unneeded();
         self.surface.add_changes(changes)
     }
@@ -149,9 +161,10 @@ impl<W: Widths> Source<W> {
             self.old.surface self.new.surface }
         // Each viewer that follows the surface still follows it, even after an error.
         ensures followed { KeepsViewers (measure W.width_of) self.old.surface self.new.surface }
-        // A row whose number isn't above one that the surface had is as it was then.
+        // A row whose number isn't above one that the surface had shows what it did then.
         ensures numbered { NumbersRows self.old.surface self.new.surface }
     {
+        self.responses.clear();
         self.surface.forget_unneeded();
         self.surface.add_changes_scrolling(changes, scrollback)
     }
@@ -169,9 +182,10 @@ impl<W: Widths> Source<W> {
             self.old.surface self.new.surface }
         // Each viewer that follows the surface still follows it, even after an error.
         ensures followed { KeepsViewers (measure W.width_of) self.old.surface self.new.surface }
-        // A row whose number isn't above one that the surface had is as it was then.
+        // A row whose number isn't above one that the surface had shows what it did then.
         ensures numbered { NumbersRows self.old.surface self.new.surface }
     {
+        self.responses.clear();
         self.surface.forget_unneeded();
         self.surface.add_lent_changes(changes)
     }
@@ -189,9 +203,10 @@ impl<W: Widths> Source<W> {
             self.old.surface self.new.surface }
         // Each viewer that follows the surface still follows it, even after an error.
         ensures followed { KeepsViewers (measure W.width_of) self.old.surface self.new.surface }
-        // A row whose number isn't above one that the surface had is as it was then.
+        // A row whose number isn't above one that the surface had shows what it did then.
         ensures numbered { NumbersRows self.old.surface self.new.surface }
     {
+        self.responses.clear();
         self.surface.add_unlogged(changes)
     }
 
@@ -221,9 +236,10 @@ impl<W: Widths> Source<W> {
             self.old.surface self.new.surface }
         // Each viewer that follows the surface still follows it, even after an error.
         ensures followed { KeepsViewers (measure W.width_of) self.old.surface self.new.surface }
-        // A row whose number isn't above one that the surface had is as it was then.
+        // A row whose number isn't above one that the surface had shows what it did then.
         ensures numbered { NumbersRows self.old.surface self.new.surface }
     {
+        self.responses.clear();
         self.surface.add_unlogged_scrolling(changes, scrollback)
     }
 
@@ -251,9 +267,10 @@ impl<W: Widths> Source<W> {
             self.old.surface self.new.surface }
         // Each viewer that follows the surface still follows it, even after an error.
         ensures followed { KeepsViewers (measure W.width_of) self.old.surface self.new.surface }
-        // A row whose number isn't above one that the surface had is as it was then.
+        // A row whose number isn't above one that the surface had shows what it did then.
         ensures numbered { NumbersRows self.old.surface self.new.surface }
     {
+        self.responses.clear();
         self.surface.forget_unneeded();
         self.surface.draw_from_screen(other, x, y)
     }
@@ -284,9 +301,10 @@ impl<W: Widths> Source<W> {
             self.old.surface self.new.surface }
         // Each viewer that follows the surface still follows it, even after an error.
         ensures followed { KeepsViewers (measure W.width_of) self.old.surface self.new.surface }
-        // A row whose number isn't above one that the surface had is as it was then.
+        // A row whose number isn't above one that the surface had shows what it did then.
         ensures numbered { NumbersRows self.old.surface self.new.surface }
     {
+        self.responses.clear();
         self.surface.forget_unneeded();
         self.surface
             .copy_region(src_x, src_y, width, height, dest_x, dest_y)
@@ -321,9 +339,10 @@ impl<W: Widths> Source<W> {
             self.old.surface self.new.surface }
         // Each viewer that follows the surface still follows it, even after an error.
         ensures followed { KeepsViewers (measure W.width_of) self.old.surface self.new.surface }
-        // A row whose number isn't above one that the surface had is as it was then.
+        // A row whose number isn't above one that the surface had shows what it did then.
         ensures numbered { NumbersRows self.old.surface self.new.surface }
     {
+        self.responses.clear();
         self.surface.forget_unneeded();
         self.surface
             .draw_region(src_x, src_y, width, height, dest_x, dest_y)
@@ -340,9 +359,10 @@ impl<W: Widths> Source<W> {
             self.old.surface self.new.surface }
         // Each viewer that follows the surface still follows it, even after an error.
         ensures followed { KeepsViewers (measure W.width_of) self.old.surface self.new.surface }
-        // A row whose number isn't above one that the surface had is as it was then.
+        // A row whose number isn't above one that the surface had shows what it did then.
         ensures numbered { NumbersRows self.old.surface self.new.surface }
     {
+        self.responses.clear();
         self.surface.resize(width, height)
     }
 
@@ -358,9 +378,10 @@ impl<W: Widths> Source<W> {
             self.old.surface self.new.surface }
         // Each viewer that follows the surface still follows it.
         ensures followed { KeepsViewers (measure W.width_of) self.old.surface self.new.surface }
-        // A row whose number isn't above one that the surface had is as it was then.
+        // A row whose number isn't above one that the surface had shows what it did then.
         ensures numbered { NumbersRows self.old.surface self.new.surface }
     {
+        self.responses.clear();
         self.surface.flush_changes_older_than(seq);
     }
 
@@ -369,12 +390,15 @@ impl<W: Widths> Source<W> {
     /// head included, has at most 64 bytes and 4 for each cell, and the screen bears its changes
     /// (see `termwiz_wire::is_borne`); and else a repaint, whose changes the screen bears too.
     ///
+    /// The bytes of the delta and of the repaint that were given last stay in memory until the
+    /// surface changes, and are copied where they are asked for again.
+    ///
     /// After an error the source is as it was, and the buffer begins with what it had.
     pub fn respond(&mut self, ask: Ask, out: &mut Vec<u8>) -> Result<(), AllocError>
         ensures ok { OnOk result (
             Responds (measure W.width_of) self.new ask out.old.items out.new.items) }
         // It is the delta that is due exactly where the ask names a number of this source that is
-        // known, and the delta has no more bytes than that, and costs no more than the screen bears.
+        // known, and the delta has no more bytes than that and costs no more than the screen bears.
         ensures given { OnOk result (out.new.items
             ≡ out.old.items ++ response_bytes (measure W.width_of) self.new ask) }
         // Into an empty buffer it is the response alone.
@@ -390,46 +414,65 @@ impl<W: Widths> Source<W> {
             self.old.surface self.new.surface }
         // Each viewer that follows the surface still follows it, even after an error.
         ensures followed { KeepsViewers (measure W.width_of) self.old.surface self.new.surface }
-        // A row whose number isn't above one that the surface had is as it was then.
+        // A row whose number isn't above one that the surface had shows what it did then.
         ensures numbered { NumbersRows self.old.surface self.new.surface }
     {
-        let from = if ask.source == self.number {
-            ask.number
-        } else {
-            SEQ_ZERO
-        };
-        let answer = self.answer(from)?;
-        encode_answer(out, &self.surface.widths(), self.number, &answer)?;
+        let from = self.number_asked(ask);
+        let is_delta = self.responses.prepare(&self.surface, self.number, from)?;
+        out.extend_from_slice(self.responses.bytes(is_delta))?;
         self.surface.forget_unneeded();
         Ok(())
     }
 
-    // The answer for a number, which is a repaint too where the changes have too many bytes, or
-    // would cost too much.
-    fn answer(&self, from: SequenceNo) -> Result<Answer, AllocError>
-        ensures { IfOk result (λ given. Answers (measure W.width_of) self.now from given) }
+    /// Writes the answer that `respond` appends to the front of a buffer, and returns its length in
+    /// bytes. Where the buffer is shorter it stays as it is: for the same ask the answer isn't made
+    /// anew while the surface stays as it is.
+    ///
+    /// After an error the source and the buffer are as they were.
+    pub fn respond_to(&mut self, ask: Ask, room: &mut [u8]) -> Result<usize, AllocError>
+        ensures response { OnOk result (IsResponse (measure W.width_of) self.new ask
+            (response_bytes (measure W.width_of) self.new ask)) }
+        ensures written { IfOk result (λ len. IsWritten
+            (response_bytes (measure W.width_of) self.new ask) room.old len room.new) }
+        ensures trims { OnOk result (
+            self.new ≡ record self.old { surface = trimmed self.old.surface }) }
+        ensures err { OnErr result (self.new ≡ self.old) }
+        ensures unwritten { OnErr result (room.new ≡ room.old) }
+        ensures serves { KeepsClients (measure W.width_of) self.old self.new }
+        // What each number named it names still, even after an error.
+        ensures remembered { KeepsNames (measure W.width_of self.old.surface.widths)
+            self.old.surface self.new.surface }
+        // Each viewer that follows the surface still follows it, even after an error.
+        ensures followed { KeepsViewers (measure W.width_of) self.old.surface self.new.surface }
+        // A row whose number isn't above one that the surface had shows what it did then.
+        ensures numbered { NumbersRows self.old.surface self.new.surface }
     {
-        let answer = self.surface.answer(from)?;
-        let (width, height) = self.surface.dimensions();
-        if answer.is_repaint() {
-            return Ok(answer);
+        let from = self.number_asked(ask);
+        let is_delta = self.responses.prepare(&self.surface, self.number, from)?;
+        let len = write_front(self.responses.bytes(is_delta), room);
+        self.surface.forget_unneeded();
+        Ok(len)
+    }
+
+    // The number of this source that an ask names, or 0 where it names none.
+    fn number_asked(&self, ask: Ask) -> SequenceNo
+        ensures { result ≡ number_asked self.now.number ask }
+    {
+        if ask.source == self.number {
+            ask.number
+        } else {
+            SEQ_ZERO
         }
-        if is_borne(&answer) {
-            let bytes = encoded_len(&self.surface.widths(), self.number, &answer);
-            if bytes <= most_bytes(width, height) {
-                return Ok(answer);
-            }
-        }
-        self.surface.answer(SEQ_ZERO)
     }
 }
 
-// How many bytes an answer that is no repaint may have.
-fn most_bytes(width: usize, height: usize) -> usize
-    requires width { width < 2 ^ 32 }
-    requires height { height < 2 ^ 32 }
-    ensures { result ≡ min (most_bytes width height) (2 ^ 64 - 1) }
+// Writes bytes to the front of a buffer, unless it is shorter, and returns how many there are.
+fn write_front(bytes: &[u8], room: &mut [u8]) -> usize
+    ensures { IsWritten bytes.now room.old result room.new }
 {
-    let cells = width * height;
-    cells.saturating_mul(4).saturating_add(64)
+    let len = bytes.len();
+    if len <= room.len() {
+        room[..len].copy_from_slice(bytes);
+    }
+    len
 }

@@ -5,7 +5,6 @@ ghost use Rattle.tikeburo_c.specs.Outcomes.{Reports};
 ghost use Rattle.tikeburo_c.specs.Results.{OrNoMemory};
 ghost use Rattle.tikeburo_c.specs.Streams.{AnswersAsk, AnswersBytes, AnswersIn, IsOnlyAsk};
 
-use crate::buffers::give;
 use crate::failure::{Failure, status};
 use crate::handle::Handle;
 use crate::kept::Kept;
@@ -25,8 +24,8 @@ fn only_ask(bytes: &[u8]) -> Result<Ask, Failure>
     Ok(ask)
 }
 
+// Where the answer is longer than the buffer, it stays kept for the next call.
 fn answer(
-    alloc: Global,
     surface: &mut Source<ChosenWidths>,
     ask: Ask,
     room: &mut [u8],
@@ -35,13 +34,16 @@ fn answer(
     ensures { OrNoMemory (AnswersAsk ask) (surface.old, (room.old, len.old))
         result (surface.new, (room.new, len.new)) }
 {
-    let mut bytes = Vec::new(alloc);
-    surface.respond(ask, &mut bytes)?;
-    give(&bytes, room, len)
+    let count = room.len();
+    let size = surface.respond_to(ask, room)?;
+    *len = size;
+    if size > count {
+        return Err(Failure::Short);
+    }
+    Ok(())
 }
 
 fn answer_bytes(
-    alloc: Global,
     surface: &mut Source<ChosenWidths>,
     ask: &[u8],
     room: &mut [u8],
@@ -51,7 +53,7 @@ fn answer_bytes(
         result (surface.new, (room.new, len.new)) }
 {
     let ask = only_ask(ask)?;
-    answer(alloc, surface, ask, room, len)
+    answer(surface, ask, room, len)
 }
 
 /// Writes the answer to the one ask that these bytes encode.
@@ -70,7 +72,7 @@ pub extern "C" fn tk_respond(
     let outcome = match handle.take(alloc) {
         Some(mut kept) => {
             let outcome = match &mut *kept {
-                Kept::Surface(surface) => answer_bytes(alloc, surface, ask, room, len),
+                Kept::Surface(surface) => answer_bytes(surface, ask, room, len),
                 Kept::Viewer(_) | Kept::Client(_) | Kept::Lines(_) => Err(Failure::WrongKind),
             };
             handle.put(alloc, kept);

@@ -56,7 +56,7 @@ fn give_changed_of(
     give_changed(alloc, surface, since, room, len)
 }
 
-/// For each row from the top 1 if it may differ from what it was when the surface had the number
+/// For each row from the top 1 if it may show something else than when the surface had the number
 /// `since`, and 0 if it doesn't; 1 for all rows where that is 0.
 #[unsafe(no_mangle)]
 pub extern "C" fn tk_changed_rows(

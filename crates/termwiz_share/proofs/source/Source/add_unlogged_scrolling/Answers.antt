@@ -1,4 +1,4 @@
-use Rattle.std.proofs.Common.{◌+◌, ◌-◌, length, map, refl, ◌∙◌}
+use Rattle.std.proofs.Common.{◌+◌, ◌-◌, inl, length, map, refl, ◌∙◌}
 use Rattle.termwiz_cell.specs.Measure.{measure}
 use Rattle.termwiz_screen.specs.Log.{next_number}
 use Rattle.termwiz_surface.specs.Unlogged.{lent_value}
@@ -11,6 +11,7 @@ invariant_of-self g c =
     let s = c.self.inside.surface in (
       full-unlogged (measure g.W.Widths.width_of s.widths) s c.add_unlogged_scrolling.new.self (map lent_value c.args.changes.now) (next_number s.log - 1 + length c.args.changes.now) c.add_unlogged_scrolling.result c.add_unlogged_scrolling.ensures.adds ∙ c.self.invariant.0,
       c.self.invariant.1,
+      (inl c.clear.ensures.delta, inl c.clear.ensures.repaint),
     )
 
 pub returns-clause-serves : goal.returns-clause-serves

@@ -18,3 +18,6 @@ returns-clause-numbered g c = rw (← c.self.view_is) (numbers-then c.self.insid
 
 pub returns-clause-remembered : goal.returns-clause-remembered
 returns-clause-remembered g c = rw (← c.self.view_is) (names-after (measure g.W.Widths.width_of) c.self.inside.surface c.forget_unneeded.new.self c.draw_from_screen.new.self (ap (λ (s : SurfaceValue _). s.widths) c.forget_unneeded.ensures.forgets) c.forget_unneeded.ensures.remembered c.draw_from_screen.ensures.remembered)
+
+pub returns-clause-region : goal.returns-clause-region
+returns-clause-region g c = rw (← c.self.view_is) (rw c.forget_unneeded.ensures.forgets at c.draw_from_screen.ensures.region)

@@ -1,38 +1,66 @@
-use Rattle.std.proofs.Common.{◌≡◌, ◌⊎◌, ◌<◌, arith, inl, inr, length, refl}
-use Rattle.std.specs.Prelude.{◌^◌}
+use Rattle.std.proofs.Common.{◌≡◌, ap, refl, sym, ◌∙◌, List, ℕ, ◌++◌, subst}
 use Rattle.termwiz_cell.specs.Measure.{measure}
+use Rattle.termwiz_surface.specs.Following.{Follows}
+use Rattle.termwiz_surface.specs.History.{KeepsNames}
+use Rattle.termwiz_surface.specs.RowNumbers.{NumbersRows}
+use Rattle.termwiz_surface.specs.Surface.{SurfaceValue}
+use Rattle.termwiz_surface.proofs.RowNumbers.{numbers-same}
+use Rattle.termwiz_share.specs.Serving.{KeepsClients}
 use Rattle.termwiz_share.specs.Source.{SourceValue, number_asked}
-use Rattle.termwiz_share.proofs.Answering.{alone_of, asked_other, asked_own, begins, response_is, response_of}
+use Rattle.termwiz_share.proofs.Answering.{alone_of, keeps_responses, named_by, response_is, response_of, stay}
+use Rattle.termwiz_share.proofs.Remembered.{names-same}
 use Rattle.termwiz_share.proofs.Served.{keeps_clients}
 use Rattle.termwiz_share.proofs.source.Source.respond.Goals as goal
-use Rattle.termwiz_share.proofs.source.Source.respond.Goals.{then-ask-self, else-ask-self}
 
-pub returns-in_err-encode_answer-clause-begins : goal.returns-in_err-encode_answer-clause-begins
-returns-in_err-encode_answer-clause-begins g c = begins c.from_residual-in_err-encode_answer.result c.args.out.now.items c.encode_answer.new.out.items c.in_err-encode_answer.ensures.kept
+pub returns-in_err-is_delta-clause-begins : goal.returns-in_err-is_delta-clause-begins
+returns-in_err-is_delta-clause-begins g c = stay c.from_residual.result c.args.out.now.items c.args.out.now.items refl
+
+pub returns-in_err-extend_from_slice-clause-begins : goal.returns-in_err-extend_from_slice-clause-begins
+returns-in_err-extend_from_slice-clause-begins g c = stay c.from_residual-in_err-extend_from_slice.result c.args.out.now.items c.extend_from_slice.new.self.items c.in_err-extend_from_slice.ensures.items
+
+pub returns-in_err-extend_from_slice-clause-remembered : goal.returns-in_err-extend_from_slice-clause-remembered
+returns-in_err-extend_from_slice-clause-remembered g c =
+    subst (λ (v : SourceValue _). KeepsNames (measure g.W.Widths.width_of v.surface.widths) v.surface c.self.inside.surface) c.self.view_is (names-same (measure g.W.Widths.width_of c.self.inside.surface.widths) c.self.inside.surface)
+
+pub returns-in_err-extend_from_slice-clause-numbered : goal.returns-in_err-extend_from_slice-clause-numbered
+returns-in_err-extend_from_slice-clause-numbered g c = subst (λ (v : SourceValue _). NumbersRows v.surface c.self.inside.surface) c.self.view_is (numbers-same c.self.inside.surface)
+
+pub invariant_of-self-2 : goal.invariant_of-self-2
+invariant_of-self-2 g c =
+    let s : SourceValue _ = record { surface = c.self.inside.surface; number = c.self.inside.number } in (
+      ap (λ (v : SurfaceValue _). v.full) c.forget_unneeded.ensures.forgets ∙ c.self.invariant.0,
+      c.self.invariant.1,
+      keeps_responses (measure g.W.Widths.width_of) s c.forget_unneeded.new.self c.prepare.new.self c.forget_unneeded.ensures.forgets c.forget_unneeded.ensures.answers c.prepare.ensures.has,
+    )
 
 pub returns-clause-ok : goal.returns-clause-ok
 returns-clause-ok g c =
     let f = measure g.W.Widths.width_of in
     let s : SourceValue _ = record { surface = c.self.inside.surface; number = c.self.inside.number } in
-    let from : (c.if-ask-self.from ≡ 0) ⊎ ((c.args.ask.source ≡ c.self.inside.number) × (c.if-ask-self.from ≡ c.args.ask.number)) = elim c.if-ask-self.branch [ then-ask-self w ↦ inr (w.if-ask-self.true, w.from-is) | else-ask-self w ↦ inl w.from-is ] in
-    let fits : length c.encode_answer.new.out.items < 2 ^ 64 = omega arith in
-    let written = rw c.widths.ensures at c.in_ok-encode_answer.ensures.written in
-    let sent = rw c.widths.ensures at c.in_ok-encode_answer.ensures.form in
-    response_of f s c.forget_unneeded.new.self c.args.ask c.if-ask-self.from c.in_ok-answer.answer c.forget_unneeded.ensures.forgets c.forget_unneeded.ensures.answers from (rw (← c.self.view_is) at c.in_ok-answer.ensures) c.args.out.now.items c.encode_answer.new.out.items written fits sent
+    let named : c.number_asked-from.result ≡ number_asked s.number c.args.ask = subst (λ (v : SourceValue _). c.number_asked-from.result ≡ number_asked v.number c.args.ask) (sym c.self.view_is) c.number_asked-from.ensures in
+    let p = c.in_ok-is_delta.ensures.answers in
+    response_of f s c.forget_unneeded.new.self c.args.ask c.number_asked-from.result p.given c.forget_unneeded.ensures.forgets c.forget_unneeded.ensures.answers (named_by s.number c.args.ask c.number_asked-from.result named) p.answers c.args.out.now.items c.extend_from_slice.new.self.items
+    (c.in_ok-extend_from_slice.ensures.items ∙ ap (λ (b : List ℕ). c.args.out.now.items ++ b) (c.bytes.ensures ∙ p.put)) p.form
 
 pub returns-clause-given : goal.returns-clause-given
 returns-clause-given g c =
     let f = measure g.W.Widths.width_of in
     let s : SourceValue _ = record { surface = c.self.inside.surface; number = c.self.inside.number } in
-    let asked : number_asked s.number c.args.ask ≡ c.if-ask-self.from = elim c.if-ask-self.branch [ then-ask-self w ↦ asked_own s.number c.args.ask c.if-ask-self.from w.if-ask-self.true w.from-is | else-ask-self w ↦ asked_other s.number c.args.ask c.if-ask-self.from w.if-ask-self.false w.from-is ] in
-    let fits : length c.encode_answer.new.out.items < 2 ^ 64 = omega arith in
-    let written = rw c.widths.ensures at c.in_ok-encode_answer.ensures.written in
-    response_is f s c.forget_unneeded.new.self c.args.ask c.if-ask-self.from c.in_ok-answer.answer c.forget_unneeded.ensures.forgets c.forget_unneeded.ensures.answers asked (rw (← c.self.view_is) at c.in_ok-answer.ensures) c.args.out.now.items c.encode_answer.new.out.items written fits
-
-pub returns-clause-serves : goal.returns-clause-serves
-returns-clause-serves g c =
-    rw (← c.self.view_is)
-    (keeps_clients (measure g.W.Widths.width_of) (record { surface = c.self.inside.surface; number = c.self.inside.number }) (record { surface = c.forget_unneeded.new.self; number = c.self.inside.number }) refl c.forget_unneeded.ensures.followed c.forget_unneeded.ensures.remembered)
+    let named : c.number_asked-from.result ≡ number_asked s.number c.args.ask = subst (λ (v : SourceValue _). c.number_asked-from.result ≡ number_asked v.number c.args.ask) (sym c.self.view_is) c.number_asked-from.ensures in
+    let p = c.in_ok-is_delta.ensures.answers in
+    response_is f s c.forget_unneeded.new.self c.args.ask c.number_asked-from.result p.given c.forget_unneeded.ensures.forgets c.forget_unneeded.ensures.answers (sym named) p.answers c.args.out.now.items c.extend_from_slice.new.self.items
+    (c.in_ok-extend_from_slice.ensures.items ∙ ap (λ (b : List ℕ). c.args.out.now.items ++ b) (c.bytes.ensures ∙ p.put))
 
 pub returns-clause-alone : goal.returns-clause-alone
 returns-clause-alone g c = λ empty. alone_of (measure g.W.Widths.width_of) _ c.args.ask _ _ (returns-clause-ok g c) empty
+
+pub returns-clause-serves : goal.returns-clause-serves
+returns-clause-serves g c =
+    let f = measure g.W.Widths.width_of in
+    let s : SourceValue _ = record { surface = c.self.inside.surface; number = c.self.inside.number } in
+    let t : SourceValue _ = record { surface = c.forget_unneeded.new.self; number = c.self.inside.number } in
+    subst (λ (v : SourceValue _). KeepsClients f v t) c.self.view_is (keeps_clients f s t refl c.forget_unneeded.ensures.followed c.forget_unneeded.ensures.remembered)
+
+pub returns-clause-followed : goal.returns-clause-followed
+returns-clause-followed g c v follows =
+    c.forget_unneeded.ensures.followed v (subst (λ (x : SourceValue _). Follows (measure g.W.Widths.width_of) v x.surface) (sym c.self.view_is) follows)

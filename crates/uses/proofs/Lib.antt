@@ -1,6 +1,7 @@
 mod ClearedRow
 mod Followed
 mod HeadingRow
+mod InTurn
 mod KeptLines
 mod MadeFully
 mod Passed

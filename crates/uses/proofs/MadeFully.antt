@@ -1,11 +1,12 @@
 -- What adding changes makes of a full screen.
-use Rattle.std.proofs.Common.{◌≡◌, ℕ, ◌+◌, ◌-◌, ◌≤◌, List, [], ◌∷◌, length, length-append, length-drop, true, false, refl, ap, ◌∙◌, arith}
-use Rattle.std.proofs.lemmas.Bool.Decides.{nat_tests}
-use Rattle.std.specs.Prelude.{Bool, ◌&&◌, nat_le, Result, Ok, Err, IfErr, OnOk, if◌then◌else◌}
+use Rattle.std.proofs.Common.{◌≡◌, ℕ, ◌+◌, ◌-◌, List, [], ◌∷◌, length-append, ap, ◌∙◌, arith}
+use Rattle.std.specs.Prelude.{Result, Ok, Err, IfErr, OnOk}
 use Rattle.termwiz_share.specs.{trimmed}
-use Rattle.termwiz_surface.specs.{Adds, ChangeValue, Kept, LogValue, Screen, SurfaceValue, delta_limit, due, flushed, full_of, full_replay, full_screen, kept_of, next_number, replay, replay_kept, screen_of}
+use Rattle.termwiz_surface.specs.{Adds, ChangeValue, Kept, Screen, SurfaceValue, delta_limit, full_of, full_replay, full_screen, kept_of, next_number, replay, replay_kept, screen_of}
 use Rattle.termwiz_surface.specs.declared.surface.SurfaceError.{SurfaceError}
 use Rattle.termwiz_surface.specs.declared.surface.SurfaceError.TheVariants.{Memory, Numbers, ScrollRegion}
+use Rattle.termwiz_screen.proofs.Logs.{flushed_number}
+use Rattle.uses.specs.Making.{MayRefuse}
 use Rattle.uses.specs.Serving.{Stands}
 
 module _ {W : Type 0} (f : List ℕ → ℕ) (old : SurfaceValue W) (changes : List ChangeValue) (n : ℕ) where
@@ -26,18 +27,25 @@ module _ {W : Type 0} (f : List ℕ → ℕ) (old : SurfaceValue W) (changes : L
   made_widths (Err Numbers) new adds = ap (λ (s : SurfaceValue W). s.widths) adds.2
   made_widths (Err Memory) new adds = adds.3.widths
 
--- the log has this number, or it is the coming one
-abbrev has : LogValue → ℕ → Bool
-has l n = nat_le l.first n && nat_le n (next_number l)
-
 -- forgetting changes leaves the number
-flushed_number : (l : LogValue) (n : ℕ) → next_number (flushed l n) ≡ next_number l
-flushed_number l n =
-    elim (has l n) as (λ b. has l n ≡ b → (if b then n else l.first) + length (if b then due l n else l.changes) ≡ l.first + length l.changes) [
-      | true ↦ λ e. let low : l.first ≤ n = grind (arith, nat_tests) in let high : n ≤ next_number l = grind (arith, nat_tests) in omega (arith, low, high, length-drop (n - l.first) l.changes)
-      | false ↦ λ e. refl
-    ] refl
+trimmed_number : {W : Type 0} (s : SurfaceValue W) → next_number (trimmed s).log ≡ next_number s.log
+trimmed_number s = flushed_number s.log (next_number s.log - delta_limit s.width s.height)
 
 pub made_counted : {W : Type 0} (f : List ℕ → ℕ) (old : SurfaceValue W) (c : ChangeValue) (n : ℕ) (result : Result ℕ SurfaceError) (new : SurfaceValue W) → Adds f (trimmed old) (c ∷ []) n result new → OnOk result (next_number new.log ≡ next_number old.log + 1)
-made_counted f old c n (Ok k) new adds = ap next_number adds.3.log ∙ omega (arith, length-append (trimmed old).log.changes (c ∷ []), flushed_number old.log (next_number old.log - delta_limit old.width old.height))
+made_counted f old c n (Ok k) new adds = ap next_number adds.3.log ∙ omega (arith, length-append (trimmed old).log.changes (c ∷ []), trimmed_number old)
 made_counted f old c n (Err error) new adds = tt
+
+-- and so why changes may be refused
+pub refuses_trimmed : {W : Type 0} (s : SurfaceValue W) (cs : List ChangeValue) (e : SurfaceError) → MayRefuse (trimmed s) cs e → MayRefuse s cs e
+refuses_trimmed s cs ScrollRegion may = may
+refuses_trimmed s cs Numbers may = (may.0, omega (arith, may.1, trimmed_number s))
+refuses_trimmed s cs Memory may = (may.0, omega (arith, may.1, trimmed_number s))
+
+refused : {W : Type 0} (f : List ℕ → ℕ) (old : SurfaceValue W) (cs : List ChangeValue) (n : ℕ) (e : SurfaceError) (new : SurfaceValue W) → Adds f old cs n (Err e) new → MayRefuse old cs e
+refused f old cs n ScrollRegion new adds = adds.0
+refused f old cs n Numbers new adds = (adds.0, adds.1)
+refused f old cs n Memory new adds = (adds.0, adds.1)
+
+pub made_refuses : {W : Type 0} (f : List ℕ → ℕ) (old : SurfaceValue W) (cs : List ChangeValue) (n : ℕ) (result : Result ℕ SurfaceError) (new : SurfaceValue W) → Adds f (trimmed old) cs n result new → IfErr result (λ error. MayRefuse old cs error)
+made_refuses f old cs n (Ok k) new adds = tt
+made_refuses f old cs n (Err e) new adds = refuses_trimmed old cs e (refused f (trimmed old) cs n e new adds)

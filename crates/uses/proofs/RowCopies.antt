@@ -1,12 +1,12 @@
 -- Copies of rows, of which one is taken again.
 use Rattle.std.proofs.Common.{◌≡◌, ℕ, ◌<◌, List, [], get_or, length, sym, ◌∙◌, ap, arith}
 use Rattle.std.specs.Prelude.{slice_set, Result, Ok, Err}
-use Rattle.std.proofs.lemmas.List.{length-map, map-set, get_or_read, get_or-set_same, get_or-set_other}
+use Rattle.std.proofs.lemmas.List.{get_or-map, length-map, map-set, get_or_read, get_or-set_same, get_or-set_other}
 use Rattle.termwiz_cell.specs.ChangeValue.{ChangeValue}
-use Rattle.termwiz_surface.specs.{Adds, CellValue, LineValue, NumbersRows, SurfaceValue, cells_of, next_number, row_at}
+use Rattle.termwiz_surface.specs.{Adds, CellValue, LineValue, NumbersRows, SurfaceValue, cells_of, next_number, row_at, row_of, screen_of}
 use Rattle.termwiz_surface.specs.declared.surface.SurfaceError.{SurfaceError}
 use Rattle.termwiz_surface.specs.declared.surface.SurfaceError.TheVariants.{Memory, Numbers, ScrollRegion}
-use Rattle.uses.specs.RowCopies.{AreCopiesAt}
+use Rattle.uses.specs.RowCopies.{AreCopiesAt, rows_shown}
 
 -- one copy is another line, and the others stay
 pub copied-here : (lines : List LineValue) (k : ℕ) (line : LineValue) → k < length lines → row_at (cells_of (slice_set lines k line)) k ≡ line.cells
@@ -35,9 +35,18 @@ module _ {W : Type 0} where
   adds-height f old new cs n (Err Numbers) a = ap (λ (s : SurfaceValue W). s.height) a.2
   adds-height f old new cs n (Err Memory) a = a.3.height
 
-  -- what were the surface's rows are copies at the number that it had
-  pub copies-at : (f : List ℕ → ℕ) (old new : SurfaceValue W) (cs : List ChangeValue) (n : ℕ) (result : Result ℕ SurfaceError) (copies : List (List CellValue)) → copies ≡ old.lines → length old.lines ≡ old.height → Adds f old cs n result new → NumbersRows old new → AreCopiesAt (next_number old.log) new copies
-  copies-at f old new cs n result copies is full adds numbered = record {
-    all = ap length is ∙ full ∙ sym (adds-height f old new cs n result adds);
-    rows = λ j some l le. ap (λ (rows : List (List CellValue)). row_at rows j) is ∙ sym (numbered.stayed (next_number old.log) j some (omega arith) l le).2.0;
-  }
+  -- what showed the surface's rows are copies at the number that it had
+  pub copies-at : (f : List ℕ → ℕ) (old new : SurfaceValue W) (cs : List ChangeValue) (n : ℕ) (result : Result ℕ SurfaceError) (copies : List LineValue) → rows_shown old.width copies ≡ (screen_of old).rows → length old.lines ≡ old.height → Adds f old cs n result new → NumbersRows old new
+      → AreCopiesAt (next_number old.log) new (cells_of copies)
+  copies-at f old new cs n result copies is full adds numbered =
+      let many : length (cells_of copies) ≡ length old.lines = sym (length-map (cells_of copies) (row_of old.width)) ∙ ap length is ∙ length-map old.lines (row_of old.width) in
+      record {
+        all = many ∙ full ∙ sym (adds-height f old new cs n result adds);
+        rows = λ j some l le.
+            let stays = numbered.stayed (next_number old.log) j some (omega arith) l le in
+            ap (λ w. row_of w (row_at (cells_of copies) j)) stays.0
+            ∙ sym (get_or-map (row_of old.width) (cells_of copies) j [] [] (omega (arith, many, full, stays.1)))
+            ∙ ap (λ (rows : List (List CellValue)). row_at rows j) is
+            ∙ get_or-map (row_of old.width) old.lines j [] [] (omega (arith, full, stays.1))
+            ∙ sym stays.2.0;
+      }

@@ -2,7 +2,7 @@
 use Rattle.std.proofs.Common.{◌≡◌, ◌⊎◌, ℕ, ◌+◌, ◌-◌, ◌≤◌, ◌^◌, List, [], ◌∷◌, ◌++◌, length, length-append, append_assoc, append-nil, refl, sym, ap, subst, ◌∙◌, arith, inl, inr}
 use Rattle.std.proofs.lemmas.Nat.{mul-le}
 use Rattle.std.specs.List.{AllByRecursion}
-use Rattle.std.specs.Prelude.{Ok, Err}
+use Rattle.std.specs.Prelude.{Result, Ok, Err}
 use Rattle.termwiz_share.specs.Client.{ClientValue, SameSettings, Shown, shown_by}
 use Rattle.termwiz_share.specs.Feeding.{Feeds}
 use Rattle.termwiz_share.specs.Histories.{Follows, FollowsTo, Given, HasFollowed, HasMore, HasStopped, IsGenuine, after, after_all, stream}
@@ -28,6 +28,11 @@ all_right P (x ∷ xs) ys all = all_right P xs ys all.1
 
 -- ---- one piece of a stream behind another
 
+-- how it ended, without the count
+abbrev pub done : Result ℕ ClientError → Result (Unit {0}) ClientError
+done (Ok n) = Ok tt
+done (Err e) = Err e
+
 module _ {W : Type 0} (f : W → List ℕ → ℕ) (histories : ℕ → ℕ → FullScreen) where
   -- a client that reads its bytes goes on with the settings that it had
   reads_on : (old new : ClientValue W) (piece : List ℕ) (n : ℕ) → Feeds f old piece (Ok n) new → SameSettings old new
@@ -44,7 +49,7 @@ module _ {W : Type 0} (f : W → List ℕ → ℕ) (histories : ℕ → ℕ → 
 
   module _ (sent : List Given) (old mid : ClientValue W) where
     -- it follows the answers that are left
-    pub followed_on : (future piece : List ℕ) (n : ℕ) → Follows f histories sent old (piece ++ future) → Feeds f old piece (Ok n) mid → (h : HasFollowed f histories sent future n old mid) → Follows f histories h.others mid future
+    followed_on : (future piece : List ℕ) (n : ℕ) → Follows f histories sent old (piece ++ future) → Feeds f old piece (Ok n) mid → (h : HasFollowed f histories sent future n old mid) → Follows f histories h.others mid future
     followed_on future piece n follows feeds h =
         let same = reads_on old mid piece n feeds in
         let genuine : AllByRecursion (IsGenuine (f old.surface.widths) old.limits histories) (h.given ++ h.others) = subst (AllByRecursion (IsGenuine (f old.surface.widths) old.limits histories)) h.all follows.genuine in
@@ -63,7 +68,7 @@ module _ {W : Type 0} (f : W → List ℕ → ℕ) (histories : ℕ → ℕ → 
     none_left m (g ∷ others) kept left few = absurd (omega (arith, few, ap length left, length-append kept [], length-append (answer m g.sent) (stream m others)))
 
     module _ (future : List ℕ) (n : ℕ) (h : HasFollowed f histories sent future n old mid) (new : ClientValue W) where
-      pub shows_last : (k : ℕ) → HasFollowed f histories h.others [] k mid new → shown_by new ≡ after_all (shown_by old) sent
+      shows_last : (k : ℕ) → HasFollowed f histories h.others [] k mid new → shown_by new ≡ after_all (shown_by old) sent
       shows_last k more =
           let none : more.others ≡ [] = none_left (f new.surface.widths) more.others new.kept more.left more.no_whole in
           let rest : more.given ≡ h.others = sym (append-nil more.given) ∙ ap (λ (l : List Given). more.given ++ l) (sym none) ∙ sym more.all in
@@ -86,17 +91,28 @@ module _ {W : Type 0} (f : W → List ℕ → ℕ) (histories : ℕ → ℕ → 
           shows (inl is) = inl (is ∙ ap (λ (s : Shown). after_all s stopped.given) h.shows ∙ sym (after_append (shown_by old) h.given stopped.given))
           shows (inr none) = inr none
 
-      pub stops_later : (e : ClientError) → FollowsTo f histories h.others [] mid (Err e) new → ShowsLast f histories sent old (Err e) new
+      stops_later : (e : ClientError) → FollowsTo f histories h.others [] mid (Err e) new → ShowsLast f histories sent old (Err e) new
       stops_later errors.Memory stopped = stopped_later stopped
       stops_later errors.Numbers stopped = stopped_later stopped
       stops_later (errors.Fault x) stopped = stopped
       stops_later (errors.Size at) stopped = stopped
 
-    pub stops_first : (future : List ℕ) (e : ClientError) → FollowsTo f histories sent future old (Err e) mid → ShowsLast f histories sent old (Err e) mid
-    stops_first future errors.Memory stopped = stopped
-    stops_first future errors.Numbers stopped = stopped
-    stops_first future (errors.Fault x) stopped = stopped
-    stops_first future (errors.Size at) stopped = stopped
+    -- what the two pieces of a stream make of a client
+    module _ (front back stream : List ℕ) (parts : front ++ back ≡ stream) (n : ℕ) (feeds : Feeds f old front (Ok n) mid)
+        (takes : Follows f histories sent old (front ++ back) → FollowsTo f histories sent back old (Ok n) mid)
+        (follows : Follows f histories sent old stream) where
+      first : Follows f histories sent old (front ++ back)
+      first = subst (λ (b : List ℕ). Follows f histories sent old b) (sym parts) follows
+
+      taken : HasFollowed f histories sent back n old mid
+      taken = takes first
+
+      last : Follows f histories taken.others mid (back ++ [])
+      last = subst (λ (b : List ℕ). Follows f histories taken.others mid b) (sym (append-nil back)) (followed_on back front n first feeds taken)
+
+      pub ends_last : (r : Result ℕ ClientError) (new : ClientValue W) → ((others : List Given) → Follows f histories others mid (back ++ []) → FollowsTo f histories others [] mid r new) → ShowsLast f histories sent old (done r) new
+      ends_last (Ok k) new later = shows_last back n taken new k (later taken.others last)
+      ends_last (Err e) new later = stops_later back n taken new e (later taken.others last)
 
 -- ---- what a source gave is genuine while it goes on
 

@@ -1,5 +1,5 @@
 -- Answers of a stream that are taken one at a time.
-use Rattle.std.proofs.Common.{◌≡◌, ◌⊎◌, inl, inr, ℕ, suc, ◌+◌, ◌∙◌, false, true, List, [], ◌∷◌, ◌++◌, length, length-append, append_assoc, append-nil, refl, sym, ap, subst, arith}
+use Rattle.std.proofs.Common.{◌≡◌, ◌⊎◌, inl, inr, ℕ, zero, suc, ◌+◌, ◌∙◌, false, true, List, [], ◌∷◌, ◌++◌, length, length-append, append_assoc, append-nil, refl, sym, ap, subst, arith}
 use Rattle.std.proofs.lemmas.Bool.{true≢false}
 use Rattle.std.specs.Prelude.{Bool, Option, Some, None, Ok, Err, if◌then◌else◌, is_some, not}
 use Rattle.termwiz_share.specs.Client.{ClientValue, Shown, fits, shown_by}
@@ -10,7 +10,7 @@ use Rattle.termwiz_share.specs.declared.error.ClientError.TheVariants as errors
 use Rattle.termwiz_share.specs.declared.taken.Taken.{Taken}
 use Rattle.termwiz_share.specs.declared.taken.Taken.TheVariants as outcomes
 use Rattle.termwiz_surface.specs.{FullScreen, full_of}
-use Rattle.uses.specs.Watching.{ShowsEach, StopsShowing, TakesInTurn, TakesSome, pictures, stale_in}
+use Rattle.uses.specs.Watching.{ShowsEach, StopsShowing, TakesAFew, TakesInTurn, TakesSome, pictures, stale_in}
 
 -- ---- one answer more
 
@@ -19,6 +19,12 @@ takes_more f count old mid new so_far (Some t) b is some next =
     let more : count + 1 ≡ suc count = omega arith in
     subst (λ (n : ℕ). TakesInTurn f n old new) (sym more) (mid, so_far, t, next)
 takes_more f count old mid new so_far None b is some next = absurd (true≢false (sym (is ∙ ap not some)))
+
+pub takes_none : {W : Type 0} (f : W → List ℕ → ℕ) (old : ClientValue W) → TakesAFew f old old
+takes_none f old = (zero, refl)
+
+pub takes_one : {W : Type 0} (f : W → List ℕ → ℕ) (old mid new : ClientValue W) → TakesAFew f old mid → (o : Option Taken) (t : Taken) → o ≡ Some t → TakesNext f mid (Ok o) new → TakesAFew f old new
+takes_one f old mid new so_far o t is next = (suc so_far.0, (mid, so_far.1, t, subst (λ (p : Option Taken). TakesNext f mid (Ok p) new) is next))
 
 after_more : (s : Shown) (given : List Given) (g : Given) → after_all s (given ++ g ∷ []) ≡ after (after_all s given) g
 after_more s [] g = refl

@@ -1,14 +1,19 @@
 -- The answers of two sources, which come to one client late, twice and in the wrong order.
-use Rattle.std.proofs.Common.{◌≡◌, ◌⊎◌, ℕ, ◌+◌, ◌≤◌, ◌^◌, true, List, [], ◌∷◌, ◌++◌, length, length-append, append-nil, refl, sym, ap, ◌∙◌, arith, inl, inr}
+use Rattle.std.proofs.Common.{◌≡◌, ◌⊎◌, ℕ, ◌+◌, ◌<◌, ◌≤◌, ◌^◌, true, List, [], ◌∷◌, ◌++◌, length, length-append, append-nil, refl, sym, ap, subst, ◌∙◌, arith, inl, inr}
 use Rattle.std.proofs.lemmas.Bool.{eq-eqb, ne_eqb}
-use Rattle.std.specs.Prelude.{None, ◌==◌, if◌then◌else◌}
+use Rattle.std.specs.Prelude.{None, ◌==◌, if◌then◌else◌, Result, Ok, Err, OnOk}
 use Rattle.termwiz_share.specs.{ClientValue, IsResponse, Shows, SourceValue, ask_of, fits, shown_by}
 use Rattle.termwiz_share.specs.Client.{Shown}
 use Rattle.termwiz_share.specs.Histories.{Follows, Given, IsGenuine, after_all}
-use Rattle.termwiz_surface.specs.{FullScreen, IsPastOf, KeepsNames, SurfaceValue, full_of, full_screens, next_number}
+use Rattle.termwiz_share.specs.declared.error.ClientError.{ClientError}
+use Rattle.termwiz_share.specs.declared.error.ClientError.TheVariants as errors
+use Rattle.termwiz_surface.specs.{ChangeValue, FullScreen, IsPastOf, KeepsNames, SurfaceValue, full_of, full_screens, next_number}
 use Rattle.termwiz_wire.specs.Sent.{answer}
 use Rattle.termwiz_wire.specs.declared.fault.Limits.{Limits}
 use Rattle.termwiz_wire.specs.declared.sent.Ask.{Ask}
+use Rattle.uses.specs.Streams.{FailsToAnswer, FailsToAnswerBoth, FeedsBoth, FeedsInTwo, IsStreamOfBoth, HasNoFault, ShowsLast, TakesBoth, blank_client, unlimited}
+use Rattle.uses.specs.declared.serving.ShareError.{ShareError}
+use Rattle.uses.specs.declared.serving.ShareError.TheVariants.{Refused, Unserved}
 use Rattle.uses.proofs.Streams.{genuine_in, given_by}
 
 -- what the numbers of a source named they name still, after two calls
@@ -23,6 +28,13 @@ module _ {W : Type 0} (f : W → List ℕ → ℕ) where
       let one = past_on s t same keeps past is_past in
       let two = past_on t u more_same more_keeps one.0 one.2 in
       (two.0, λ k le. two.1 k (omega (arith, le, one.3)) ∙ one.1 k le, two.2)
+
+-- the client shows the source, or wants memory or numbers
+abbrev pub ShowsOrWants : {W : Type 0} → SourceValue W → Result (Unit {0}) ClientError → ClientValue W → Type 0
+ShowsOrWants s (Ok u) new = Shows s new
+ShowsOrWants s (Err errors.Memory) new = Unit {0}
+ShowsOrWants s (Err errors.Numbers) new = Unit {0}
+ShowsOrWants s (Err _) new = ⊥
 
 abbrev pub in_turn : List ℕ → List ℕ → List ℕ → List ℕ
 in_turn late early other = late ++ (early ++ (late ++ (late ++ (other ++ []))))
@@ -111,6 +123,79 @@ module _ {W : Type 0} (f : W → List ℕ → ℕ) (client : ClientValue W) (a b
           shows ∙ (rw (last_fits (after_all (shown_by client) (h ∷ g ∷ h ∷ h ∷ []))) refl) in
           record { picture = ap (λ (s : Shown). s.picture) is; source = ap (λ (s : Shown). s.source) is; number = ap (λ (s : Shown). s.number) is ∙ last.number }
 
-      -- what a client shows that has such a stream
-      pub shows_both : (bytes : List ℕ) → bytes ≡ in_turn late early other → (new : ClientValue W) → ((names : ℕ → ℕ → FullScreen) (sent : List Given) → Follows f names sent client bytes → shown_by new ≡ after_all (shown_by client) sent) → Shows c new
-      shows_both bytes is new shows = shows_last_of_both new (shows histories sent_in_turn (follows_both bytes is))
+      -- whoever is fed that shows the other source, or wants memory or numbers
+      pub ends_both : (bytes : List ℕ) → bytes ≡ in_turn late early other → (r : Result (Unit {0}) ClientError) (new : ClientValue W) → ((names : ℕ → ℕ → FullScreen) (sent : List Given) → Follows f names sent client bytes → ShowsLast f names sent client r new) → ShowsOrWants c r new
+      ends_both bytes is r new shows = ended r new (shows histories sent_in_turn (follows_both bytes is))
+        where
+          ended : (r : Result (Unit {0}) ClientError) (new : ClientValue W) → ShowsLast f histories sent_in_turn client r new → ShowsOrWants c r new
+          ended (Ok u) new shows = shows_last_of_both new shows
+          ended (Err errors.Memory) new stops = tt
+          ended (Err errors.Numbers) new stops = tt
+          ended (Err (errors.Fault x)) new stops = stops
+          ended (Err (errors.Size at)) new stops = stops
+
+-- a new client is fed what two sources answer
+module _ {W : Type 0} (f : W → List ℕ → ℕ) (first second later other : SourceValue W) (change : ChangeValue) (cut : ℕ)
+    (apart : first.number ≡ second.number → ⊥) (one_measure : f first.surface.widths ≡ f second.surface.widths)
+    (past second_past : ℕ → FullScreen) (is_past : IsPastOf full_screens f past first.surface) (is_other : IsPastOf full_screens f second_past second.surface) where
+  abbrev client : ClientValue W
+  client = blank_client first.surface.widths
+
+  takes_both : (r : Result (Unit {0}) ClientError) (new : ClientValue W) → TakesBoth f first second change cut client r later other new → ShowsOrWants other r new
+  takes_both r new takes =
+      let both = takes.answered in
+      let answers = both.answers in
+      let early = answers.then in
+      -- what the numbers of both name in the end
+      let one = past_on f first.surface early.surface answers.widths answers.names past is_past in
+      let changed_widths : answers.changed.widths ≡ early.surface.widths = answers.changed_widths ∙ sym answers.widths in
+      let later_widths : later.surface.widths ≡ answers.changed.widths = answers.later_widths ∙ sym answers.changed_widths in
+      let later_names = subst (λ (w : W). KeepsNames (f w) early.surface answers.changed) (sym answers.widths) answers.later_names in
+      let last_names = subst (λ (w : W). KeepsNames (f w) answers.changed later.surface) (sym answers.changed_widths) answers.last_names in
+      let two = past_after f early.surface answers.changed later.surface changed_widths later_names later_widths last_names one.0 one.2 in
+      let three = past_on f second.surface other.surface both.widths both.names second_past is_other in
+      let lengths = lengths_in_turn both.late both.early both.other in
+      let few = ap length both.is in
+      ends_both f client early later other (ask_of client) answers.asked both.early both.late both.other answers.first answers.second both.response
+      (answers.number ∙ sym answers.same) (λ e. apart (sym answers.same ∙ e ∙ both.number))
+      (ap f (sym answers.widths)) (ap f (sym answers.later_widths)) (one_measure ∙ ap f (sym both.widths))
+      one.0 two.0 three.0 one.2 two.2 three.2 two.1
+      unlimited (omega arith) (omega arith) (omega (arith, few, takes.few, lengths.1)) (omega (arith, few, takes.few, lengths.0)) (omega (arith, few, takes.few, lengths.2))
+      refl refl refl refl refl
+      takes.stream both.is r new takes.shows
+
+  pub shows_second : (r : Result (Unit {0}) ShareError) (new : ClientValue W) → FeedsBoth f first second change cut client r later other new → OnOk r (Shows other new)
+  shows_second (Ok u) new takes = takes_both (Ok u) new takes
+  shows_second (Err e) new fails = tt
+
+  pub no_fault : (e : ShareError) (new : ClientValue W) → FeedsBoth f first second change cut client (Err e) later other new → HasNoFault e
+  no_fault (Refused e) new fails = tt
+  no_fault (Unserved errors.Memory) new fails = tt
+  no_fault (Unserved errors.Numbers) new fails = tt
+  no_fault (Unserved (errors.Fault x)) new (inl none) = let same : errors.Fault x ≡ errors.Memory = none.0 in absurd (let bad : ⊥ = cc in bad)
+  no_fault (Unserved (errors.Fault x)) new (inr takes) = takes_both (Err (errors.Fault x)) new takes
+  no_fault (Unserved (errors.Size at)) new (inl none) = let same : errors.Size at ≡ errors.Memory = none.0 in absurd (let bad : ⊥ = cc in bad)
+  no_fault (Unserved (errors.Size at)) new (inr takes) = takes_both (Err (errors.Size at)) new takes
+
+module _ {W : Type 0} (f : W → List ℕ → ℕ) (first second : SourceValue W) where
+  -- where the first source doesn't answer, the second one is as it was
+  pub fails_first : (later : SourceValue W) (change : ChangeValue) (e : ShareError) → FailsToAnswer f first change e later → FailsToAnswerBoth f first second change e later second
+  fails_first later change (Refused e) fails = (fails, refl)
+  fails_first later change (Unserved e) fails = fails
+
+  module _ (later other : SourceValue W) (change : ChangeValue) (cut : ℕ) (client : ClientValue W) where
+    -- nothing is fed where there is no stream
+    pub no_stream : (e : ShareError) → FailsToAnswerBoth f first second change e later other → FeedsBoth f first second change cut client (Err e) later other client
+    no_stream (Refused e) fails = fails
+    no_stream (Unserved e) fails = inl fails
+
+    -- and else the whole of it
+    pub fed : (new : ClientValue W) (ask : Ask) (stream piece : List ℕ) → ask ≡ ask_of client → piece ≡ stream → length stream < 2 ^ 64 → IsStreamOfBoth f first second change ask stream later other → (r : Result (Unit {0}) ClientError) → FeedsInTwo f client piece cut r new
+        → ((names : ℕ → ℕ → FullScreen) (sent : List Given) → Follows f names sent client piece → ShowsLast f names sent client r new) → TakesBoth f first second change cut client r later other new
+    fed new ask stream piece asked same few answered r feeds shows = record {
+      stream = stream;
+      answered = subst (λ (a : Ask). IsStreamOfBoth f first second change a stream later other) asked answered;
+      few = few;
+      feeds = subst (λ (b : List ℕ). FeedsInTwo f client b cut r new) same feeds;
+      shows = λ names sent follows. shows names sent (subst (λ (b : List ℕ). Follows f names sent client b) (sym same) follows);
+    }

@@ -1,5 +1,5 @@
 -- What callers make of viewers, by the steps that the viewers' own calls are.
-use Rattle.std.specs.Prelude.{◌≡◌, ◌⊎◌, ℕ, List, Result, Ok, Err, if◌then◌else◌}
+use Rattle.std.specs.Prelude.{◌≡◌, ◌⊎◌, ℕ, ◌<◌, List, length, slice_index_or, Result, Ok, Err, if◌then◌else◌}
 use Rattle.termwiz_surface.specs.{ChangeValue, FollowsTo, SurfaceValue, ViewerValue, due, knows, next_number, own_repaint}
 use Rattle.termwiz_surface.specs.declared.surface.SurfaceError.{SurfaceError}
 use Rattle.uses.specs.Turns.{InTurn}
@@ -23,6 +23,29 @@ module _ {W : Type 0} (measure_of : W → List ℕ → ℕ) (s : SurfaceValue W)
       ViewerValue W → Result (Unit {0}) SurfaceError → ViewerValue W → Type 0
   FollowsOnce old (Ok u) new = FollowsTo measure_of s old (Ok (next_number s.log)) new
   FollowsOnce old (Err e) new = FollowsTo measure_of s old (Err e) new
+
+  -- of viewers that follow in turn one fails to: those before it have followed, and those behind it
+  -- are as they were
+  pub record StopsFollowing (old : List (ViewerValue W)) (error : SurfaceError)
+      (new : List (ViewerValue W)) : Type 0 where
+    pub at : ℕ
+    pub inside : at < length old
+    pub before :
+        (k : ℕ) (d : ViewerValue W) → k < at →
+        FollowsOnce (slice_index_or old k d) (Ok tt) (slice_index_or new k d)
+    pub fails :
+        (d : ViewerValue W) →
+        FollowsOnce (slice_index_or old at d) (Err error) (slice_index_or new at d)
+    pub behind :
+        (k : ℕ) (d : ViewerValue W) → at < k → slice_index_or new k d ≡ slice_index_or old k d
+
+  -- each viewer follows, or they stop
+  abbrev pub FollowInTurn :
+      List (ViewerValue W) → Result (Unit {0}) SurfaceError → List (ViewerValue W) → Type 0
+  FollowInTurn old (Ok u) new =
+      (k : ℕ) (d : ViewerValue W) → k < length old →
+      FollowsOnce (slice_index_or old k d) (Ok u) (slice_index_or new k d)
+  FollowInTurn old (Err error) new = StopsFollowing old error new
 
 module _ {W : Type 0} (measure_of : W → List ℕ → ℕ) (s : SurfaceValue W) where
   -- a near viewer follows the surface, and then a far one the near one's own surface

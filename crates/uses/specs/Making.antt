@@ -1,8 +1,15 @@
 -- Changes that callers make on a surface: as one list, or each by itself.
 use Rattle.std.specs.Prelude.{◌≡◌, ◌⊎◌, ℕ, ◌+◌, ◌<◌, ◌^◌, true, List, [], ◌∷◌, ◌++◌, length, Result, Ok, Err}
+use Rattle.termwiz_surface.specs.Adding.{Refuses}
 use Rattle.termwiz_surface.specs.{Adds, ChangeValue, FullScreen, IsDrawn, Makes, SurfaceValue, appended, full_of, full_replay, next_number, regions_fit}
 use Rattle.termwiz_surface.specs.declared.surface.SurfaceError.{SurfaceError}
-use Rattle.termwiz_surface.specs.declared.surface.SurfaceError.TheVariants.{Memory}
+use Rattle.termwiz_surface.specs.declared.surface.SurfaceError.TheVariants.{Memory, Numbers, ScrollRegion}
+
+-- a surface refuses these changes for this reason, or makes them where memory lasts
+abbrev pub MayRefuse : {W : Type 0} → SurfaceValue W → List ChangeValue → SurfaceError → Type 0
+MayRefuse s changes ScrollRegion = Refuses s changes (Err ScrollRegion)
+MayRefuse s changes Numbers = Refuses s changes (Err Numbers)
+MayRefuse s changes Memory = Refuses s changes (Ok tt)
 
 module _ {W : Type 0} (measure : List ℕ → ℕ) (old : SurfaceValue W)
     (changes : List ChangeValue) where

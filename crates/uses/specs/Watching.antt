@@ -2,7 +2,7 @@
 use Rattle.std.specs.Prelude.{◌≡◌, ◌⊎◌, ℕ, zero, suc, ◌+◌, ◌<◌, List, [], ◌∷◌, ◌++◌, length, Some, Ok, Err, if◌then◌else◌}
 use Rattle.termwiz_surface.specs.{FullScreen}
 use Rattle.termwiz_share.specs.Client.{ClientValue, Shown, fits, shown_by}
-use Rattle.termwiz_share.specs.Feeding.{TakesNext}
+use Rattle.termwiz_share.specs.Feeding.{Keeps, TakesNext, with_bytes}
 use Rattle.termwiz_share.specs.Histories.{Follows, Given, HasMore, HasStopped, after, after_all}
 use Rattle.termwiz_share.specs.declared.error.ClientError.{ClientError}
 use Rattle.termwiz_share.specs.declared.error.ClientError.TheVariants.{Memory, Numbers}
@@ -24,6 +24,25 @@ pub record FailsAfterSome {W : Type 0} (measure_of : W → List ℕ → ℕ) (mo
   pub few : count < most
   pub takes : TakesInTurn measure_of count old mid
   pub fails : TakesNext measure_of mid (Err error) new
+
+module _ {W : Type 0} (measure_of : W → List ℕ → ℕ) where
+  -- some answers are taken, one behind another
+  abbrev pub TakesAFew : ClientValue W → ClientValue W → Type 0
+  TakesAFew old new = (count : ℕ) × TakesInTurn measure_of count old new
+
+  -- behind some answers that the client takes the next one fails to be, or there is no memory for
+  -- the screen of the last one
+  pub record FailsBehind (old : ClientValue W) (error : ClientError) (new : ClientValue W) :
+      Type 0 where
+    pub mid : ClientValue W
+    pub takes : TakesAFew old mid
+    pub fails : TakesNext measure_of mid (Err error) new ⊎ ((error ≡ Memory) × (new ≡ mid))
+
+  -- the bytes aren't kept, or it fails behind that
+  abbrev pub FailsToTakeEach :
+      ClientValue W → List ℕ → ClientError → ClientValue W → Type 0
+  FailsToTakeEach old piece error new =
+      Keeps old piece (Err error) new ⊎ FailsBehind (with_bytes old piece) error new
 
 -- what the answers that fit were given for
 abbrev pub pictures : Shown → List Given → List FullScreen

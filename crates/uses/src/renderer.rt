@@ -1,7 +1,7 @@
 //! A renderer: what it does in each turn of its loop.
 ghost use Rattle.std.specs.Prelude.{◌≡◌, ◌↔◌, [], Err, IfErr, IfOk, IsTrue, OnErr, OnOk};
-ghost use Rattle.uses.specs.{All, Follows, FollowsTo, ScrollRegion, flushed, full_of, full_value};
-ghost use Rattle.uses.specs.{measure, next_number, screen_of};
+ghost use Rattle.uses.specs.{All, FollowInTurn, Follows, FollowsTo, ScrollRegion, flushed};
+ghost use Rattle.uses.specs.{full_of, full_value, measure, next_number, screen_of};
 
 use std::alloc::AllocError;
 use termwiz_surface::laws::full_equality_laws;
@@ -36,8 +36,9 @@ pub fn refresh<W: Widths>(
 
 /// Shows on all its viewers what the surface shows, and lets the surface forget its changes then,
 /// since each viewer has them.
-/// After an error, which is `Numbers` or `Memory`, the surface is as before. The viewers may show
-/// anything, and a turn that succeeds shows the screen on all of them.
+/// It stops at a viewer that fails, by `Numbers` or `Memory`: the surface and the viewers behind
+/// that one are as before, those before it show the screen, and it is what that error of
+/// `Viewer::follow` leaves. A turn that succeeds shows the screen on all of them.
 pub fn refresh_all<W: Widths>(
     surface: &mut Surface<W>,
     viewers: &mut [Viewer<W>],
@@ -51,6 +52,9 @@ pub fn refresh_all<W: Widths>(
         surface.new.log ≡ flushed surface.old.log (next_number surface.old.log)) }
     ensures unchanged { screen_of surface.new ≡ screen_of surface.old }
     ensures kept { OnErr result (surface.new ≡ surface.old) }
+    // Which error comes when, and what it leaves of each.
+    ensures steps { FollowInTurn (measure W.width_of)
+        surface.old viewers.old result viewers.new }
     ensures no_scroll { result ≡ Err ScrollRegion → ⊥ }
     // The next turn can rely on it again, after an error too.
     ensures follows { All (λ v. Follows (measure W.width_of) v surface.new) viewers.new }

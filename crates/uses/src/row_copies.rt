@@ -2,8 +2,8 @@
 //! may have changed are copied again.
 ghost use Rattle.std.specs.Prelude.{◌≡◌, ◌<◌, ◌≤◌, IfOk, OnErr, OnOk, length, map, ℕ};
 ghost use Rattle.uses.specs.{AddsAll, AreCopiesAt, CopiesRows, InTurn, KeepsOthers, MayDiffer};
-ghost use Rattle.uses.specs.{cells_of, change_value, measure, next_number, number_at, row_at};
-ghost use Rattle.uses.specs.{screen_after, screen_of};
+ghost use Rattle.uses.specs.{cells_of, change_value, measure, next_number, number_at, row_of};
+ghost use Rattle.uses.specs.{rows_shown, screen_after, screen_of, shown_at};
 
 use std::alloc::{AllocError, Global};
 use termwiz_surface::{Change, Line, SequenceNo, Surface, SurfaceError, Widths};
@@ -31,8 +31,9 @@ fn refresh_row<W: Widths>(
     requires inside { row < surface.now.height }
     requires full { length surface.now.lines ≡ surface.now.height }
     requires known { 0 < since → number_at surface.now row ≤ since →
-        copy.old.cells ≡ row_at surface.now.lines row }
-    ensures copied { OnOk result (copy.new.cells ≡ row_at surface.now.lines row) }
+        row_of surface.now.width copy.old.cells ≡ shown_at surface.now row }
+    ensures copied { OnOk result
+        (row_of surface.now.width copy.new.cells ≡ shown_at surface.now row) }
     ensures left { 0 < since → number_at surface.now row ≤ since → copy.new ≡ copy.old }
     ensures kept { OnErr result (copy.new ≡ copy.old) }
     ensures needed { OnErr result (MayDiffer since surface.now row) }
@@ -55,7 +56,8 @@ pub fn refresh_rows<W: Widths>(
     copies: &mut [Line],
 ) -> Result<(), AllocError>
     requires { AreCopiesAt since surface.now (cells_of copies.old) }
-    ensures copied { OnOk result (cells_of copies.new ≡ surface.now.lines) }
+    ensures copied { OnOk result
+        (rows_shown surface.now.width copies.new ≡ (screen_of surface.now).rows) }
     ensures left { KeepsOthers since surface.now copies.old copies.new }
     // The next call can rely on it, after an error too.
     ensures kept { AreCopiesAt since surface.now (cells_of copies.new) }
@@ -80,7 +82,7 @@ pub fn show<W: Widths>(
     changes: Vec<Change>,
     copies: &mut [Line],
 ) -> Result<(), SurfaceError>
-    requires { cells_of copies.old ≡ surface.old.lines }
+    requires { rows_shown surface.old.width copies.old ≡ (screen_of surface.old).rows }
     // The changes are made, and then the rows are copied.
     ensures shows { OnOk result (screen_of surface.new
         ≡ screen_after (measure W.width_of) surface.old (map change_value changes.items)) }
@@ -88,7 +90,8 @@ pub fn show<W: Widths>(
         surface.old (map change_value changes.items) r surface.new)
         (copies.new ≡ copies.old)
         (CopiesRows (next_number surface.old.log) surface.new) result }
-    ensures copied { OnOk result (cells_of copies.new ≡ surface.new.lines) }
+    ensures copied { OnOk result
+        (rows_shown surface.new.width copies.new ≡ (screen_of surface.new).rows) }
     // A copy of a row that they can't have changed is left alone.
     ensures left { KeepsOthers (next_number surface.old.log) surface.new copies.old copies.new }
     ensures kept { AreCopiesAt (next_number surface.old.log) surface.new (cells_of copies.new) }

@@ -1,7 +1,7 @@
 //! A screen that is shared with three clients: each asks, is answered, and shows what it is sent.
-ghost use Rattle.std.specs.Prelude.{◌≡◌, ◌+◌, ◌<◌, ◌∷◌, [], IfErr, IfOk, OnOk, map, true};
+ghost use Rattle.std.specs.Prelude.{◌≡◌, ◌+◌, ◌<◌, ◌∷◌, [], IfErr, IfOk, OnErr, OnOk, map, true};
 ghost use Rattle.uses.specs.{Adds, IsReady, IsResponse, IsSurfaceSize, KeepsClients, KeepsNames};
-ghost use Rattle.uses.specs.{Serves, ServesAll, ServesOnce, Shares, ShowsAll, Stands};
+ghost use Rattle.uses.specs.{MayRefuse, Serves, ServesAll, ServesOnce, Shares, ShowsAll, Stands};
 ghost use Rattle.uses.specs.{blank_surface, change_value, full_after, full_of, measure};
 ghost use Rattle.uses.specs.{next_number, trimmed};
 
@@ -180,7 +180,10 @@ impl<W: Widths> Room<W> {
 }
 
 // Makes one change on what a source shows.
-fn make<W: Widths>(source: &mut Source<W>, change: Change) -> Result<SequenceNo, SurfaceError>
+pub(crate) fn make<W: Widths>(
+    source: &mut Source<W>,
+    change: Change,
+) -> Result<SequenceNo, SurfaceError>
     ensures adds { Adds (measure W.width_of source.old.surface.widths)
         (trimmed source.old.surface) (change_value change ∷ [])
         (next_number (trimmed source.old.surface).log) result source.new.surface }
@@ -188,10 +191,16 @@ fn make<W: Widths>(source: &mut Source<W>, change: Change) -> Result<SequenceNo,
         ≡ full_after (measure W.width_of) source.old.surface (change_value change ∷ [])) }
     ensures stands { IfErr result (λ error.
         Stands error (full_of source.old.surface) (full_of source.new.surface)) }
+    // Which error comes when.
+    ensures refuses { IfErr result (λ error.
+        MayRefuse source.old.surface (change_value change ∷ []) error) }
+    ensures number { source.new.number ≡ source.old.number }
     ensures widths { source.new.surface.widths ≡ source.old.surface.widths }
     ensures counted { OnOk result (next_number source.new.surface.log
         ≡ next_number source.old.surface.log + 1) }
     ensures others { KeepsClients (measure W.width_of) source.old source.new }
+    ensures remembered { KeepsNames (measure W.width_of source.old.surface.widths)
+        source.old.surface source.new.surface }
 {
     // Changes make a full screen of a full screen.
     full_repaint_laws();
@@ -226,7 +235,7 @@ pub fn serve<W: Widths>(
     Ok(())
 }
 
-/// The bytes of a source's answer to an ask.
+/// The bytes of a source's answer to an ask. After an error the source is unchanged.
 pub(crate) fn response<W: Widths>(
     alloc: Global,
     source: &mut Source<W>,
@@ -234,6 +243,9 @@ pub(crate) fn response<W: Widths>(
 ) -> Result<Vec<u8>, AllocError>
     ensures response { IfOk result (λ bytes.
         IsResponse (measure W.width_of) source.new ask bytes.items) }
+    ensures trims { OnOk result (
+        source.new ≡ record source.old { surface = trimmed source.old.surface }) }
+    ensures kept { OnErr result (source.new ≡ source.old) }
     ensures number { source.new.number ≡ source.old.number }
     ensures same { full_of source.new.surface ≡ full_of source.old.surface }
     ensures widths { source.new.surface.widths ≡ source.old.surface.widths }

@@ -3,8 +3,8 @@
 ghost use Rattle.std.specs.Prelude.{◌≡◌, ◌∷◌, ◌++◌, ◌≤◌, [], IfErr, IfOk, List, OnErr, OnOk};
 ghost use Rattle.std.specs.Prelude.{map, ℕ};
 ghost use Rattle.termwiz_share.specs.{Follows, Given};
-ghost use Rattle.uses.specs.{FailsAfterSome, FullScreen as Picture, ShowsEach, StopsShowing};
-ghost use Rattle.uses.specs.{TakesSome, full_of, full_value, measure};
+ghost use Rattle.uses.specs.{FailsAfterSome, FailsToTakeEach, FullScreen as Picture, ShowsEach};
+ghost use Rattle.uses.specs.{StopsShowing, TakesSome, full_of, full_value, measure};
 
 use std::alloc::AllocError;
 use termwiz_share::{Client, ClientError, Taken};
@@ -30,6 +30,10 @@ pub fn show_each<W: Widths>(
         IfErr result (λ error. StopsShowing (measure W.width_of) histories sent future
         client.old (map full_value screens.old.items)
         error client.new (map full_value screens.new.items)) }
+    // It fails as a call that keeps bytes or takes an answer does, or there is no memory for a
+    // screen.
+    ensures stops { IfErr result (λ error. FailsToTakeEach (measure W.width_of)
+        client.old piece.now error client.new) }
 {
     client.keep(piece)?;
     let mut stale = 0;

@@ -2,13 +2,15 @@ use Rattle.std.proofs.Common.{◌+◌, ◌≤◌, ℕ, List, length, map}
 use Rattle.termwiz_cell.specs.Measure.{measure}
 use Rattle.termwiz_share.specs.Histories.{Follows, Given}
 use Rattle.termwiz_surface.specs.{FullScreen, full_value}
+use Rattle.uses.specs.Watching.{TakesAFew}
 use Rattle.uses.proofs.Taken.{HasShown}
 use Rattle.uses.proofs.watching.show_each.Given as goal
 
--- what was taken is shown, and no more was stale than there were bytes
+-- what was taken is shown, one answer behind another, and no more was stale than there were bytes
 abbrev pub invariant-loop-taken : goal.invariant-loop-taken
 invariant-loop-taken g l = record {
   few : l.stale + length l.client.kept ≤ length l.initial.client.kept;
+  takes : TakesAFew (measure g.W.Widths.width_of) l.initial.client l.client;
   shown : (histories : ℕ → ℕ → FullScreen) (sent : List Given) (future : List ℕ) → Follows (measure g.W.Widths.width_of) histories sent l.initial.client future → HasShown (measure g.W.Widths.width_of) histories sent future l.initial.client (map full_value l.initial.screens.items) l.stale l.client (map full_value l.screens.items);
 }
 

@@ -2,7 +2,7 @@
 import { ARRAY, encodeHead, FALSE, NEGATIVE, NULL, Reader, TRUE, UINT } from './reader.mjs';
 import { isBreak } from './screen.mjs';
 
-const VERSION = 2;
+export const VERSION = 2;
 const MOST_SIZE = 4294967295, MOST_OFFSET = (1n << 63n) - 1n;
 // The fields of a style: lowest bit, mask, and greatest value. One of a single bit is a bool.
 const FIELDS = {

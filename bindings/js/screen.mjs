@@ -6,7 +6,25 @@ export const DEFAULT_ATTRIBUTES = Object.freeze({
 });
 
 export const isBreak = piece => piece === '\n' || piece === '\r' || piece === '\r\n';
-const blank = attributes => Object.freeze({ text: ' ', columns: 1, attributes });
+
+class Cell {
+    #place; // a number that goes up by one with each piece of a text
+
+    constructor(text, columns, attributes, place) {
+        this.text = text;
+        this.columns = columns;
+        this.attributes = attributes;
+        this.#place = place;
+        Object.freeze(this);
+    }
+
+    /** Whether the same text has this cell's piece directly behind that cell's. */
+    follows(before) {
+        return this.#place === before.#place + 1;
+    }
+}
+
+const blank = attributes => new Cell(' ', 1, attributes, NaN); // behind none
 /** A row of blanks, which is shared: `cells` are made where it is first written to. */
 const blankRow = (rest, attribute) => Object.freeze({ cells: null, rest, attribute });
 const DEFAULT_ROW = blankRow(blank(DEFAULT_ATTRIBUTES), 3); // of single width
@@ -23,6 +41,7 @@ export class Screen {
     number = 0n;
     #rows; // of the screen, behind those that left it by line feeds
     #top; // how many left
+    #place = 0; // of the last piece
 
     constructor() {
         this.reset(0, 0);
@@ -113,6 +132,7 @@ export class Screen {
 
     /** Prints runs of pieces. Without these each character is a piece of one column. */
     print(text, runs = [{ pieces: text, columns: 1 }]) {
+        this.#place++; // so that no piece follows one of another text
         for (const { pieces, columns } of runs) {
             for (const piece of pieces) this.#print(piece, columns);
         }
@@ -128,12 +148,13 @@ export class Screen {
 
     #print(piece, columns) {
         const first = piece.charCodeAt(0), isControl = first < 32 || first === 127;
+        const place = ++this.#place;
         if (isControl && isBreak(piece)) return this.#break(piece);
         if (this.cursor.x >= this.width) this.#break('\r\n');
         const { x, y } = this.cursor, row = this.#row(y), { cells } = row;
-        const text = isControl ? ' ' : piece;
         cut(row, x);
-        cells[x] = Object.freeze({ text, columns, attributes: this.pen });
+        cells[x] = isControl // which is cut from its neighbours, as a space may not be
+            ? new Cell(' ', columns, this.pen, NaN) : new Cell(piece, columns, this.pen, place);
         if (columns === 2 && x + 1 < this.width) cells[x + 1] = blank(this.pen);
         this.cursor.x = Math.min(x + columns, this.width);
     }

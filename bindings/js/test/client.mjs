@@ -1,13 +1,16 @@
-// What the vectors don't have: limits, new connections, hostile bytes, and watch.mjs. Run it by
-// `node --test test/client.mjs`.
+// What the vectors don't have: limits, new connections, hostile bytes, repaints, and watch.mjs. Run
+// it by `node --test test/client.mjs`.
 import assert from 'node:assert/strict';
 import { spawnSync } from 'node:child_process';
 import { readFileSync } from 'node:fs';
 import test from 'node:test';
 import { fileURLToPath } from 'node:url';
+import { Player, readRecording } from '../recording.mjs';
+import { encodeRepaint } from '../repaint.mjs';
 import { Client } from '../tikeburo.mjs';
 import { sequence } from './encode.mjs';
 import { randomFrom } from './random.mjs';
+import { contentsOf, judgeRepaint } from './repaints.mjs';
 import { randomChanges } from './screens.mjs';
 import { allowed } from './work.mjs';
 
@@ -249,6 +252,137 @@ test('random bytes', () => {
         client.end();
         assert.equal(client.screen.number, 0n);
     }
+});
+
+test('the repaints of the demo', () => {
+    const { entries } = readRecording(readFileSync(new URL('../demo.cborseq', import.meta.url)));
+    const player = new Player(entries), times = new Set(entries.map(entry => entry.time));
+    for (const time of times) {
+        player.seek(time);
+        judgeRepaint(player.client.screen);
+    }
+    assert.ok(times.size > 50, times.size);
+});
+
+test('the repaints of 1,500 random screens, and what follows them', () => {
+    const random = randomFrom(1500);
+    let client = null, number = 0;
+    for (let k = 0; k < 1500; k++) {
+        if (!random(4)) client = null;
+        const size = { width: 1 + random(40), height: 1 + random(12) };
+        const { width, height } = client?.screen ?? size;
+        const changes = allowed(randomChanges(random, width, height), width, height);
+        const answer = sequence([2, 1, width, height, client ? number : 0, ++number, changes]);
+        const next = new Client(); // which begins with the repaint of what came before
+        if (client) next.feed(encodeRepaint(client.screen));
+        client ??= new Client();
+        for (const each of [client, next]) {
+            each.feed(answer);
+            assert.equal(each.fault, null);
+        }
+        assert.deepEqual(contentsOf(next.screen), contentsOf(client.screen));
+        judgeRepaint(client.screen);
+    }
+});
+
+test('the texts of a repaint are cut as their sender cut them', () => {
+    const paintedBy = (...changes) => {
+        const client = new Client();
+        client.feed(repaint(12, 2, 1, ...changes));
+        return judgeRepaint(client.screen).filter(([kind]) => kind === 2n)
+            .map(([, text, runs]) => (runs ? [text, ...runs.map(Number)] : text));
+    };
+    const home = [6, [1, 0], [1, 0]];
+    // One text stays one, ASCII is joined, and whatever a viewer's tables may join stands alone.
+    assert.deepEqual(paintedBy([2, 'かなé', [2, 1, 2, 1, 1, 1]]), [['かなé', 2, 1, 2, 1, 1, 1]]);
+    assert.deepEqual(paintedBy([2, 'か', [1, 1, 2]], [2, 'な', [1, 1, 2]]),
+        [['か', 1, 1, 2], ['な', 1, 1, 2]]);
+    assert.deepEqual(paintedBy([2, 'a'], [2, 'b'], [1, [0, null, null, null, null]], [2, 'c']),
+        ['abc']);
+    assert.deepEqual(paintedBy([2, 'e'], [2, '\u0301'], [2, 'x']), ['e', '\u0301', 'x']);
+    assert.deepEqual(paintedBy([2, '🇩'], [2, '🇪']), ['🇩', '🇪']);
+    assert.deepEqual(paintedBy([2, '🇩🇪🇺🇸', [2, 2, 2]]), [['🇩🇪🇺🇸', 2, 2, 2]]);
+    // A mark is cut from a control character, and not from the space that it is shown as.
+    assert.deepEqual(paintedBy([2, 'a\x07\u0301']), ['a ', '\u0301']);
+    assert.deepEqual(paintedBy([2, '\u0600\x07a']), ['\u0600', ' a']);
+    // What was printed over, and what stands in another row, follows nothing.
+    assert.deepEqual(paintedBy([2, 'éèà'], home, [2, 'x'], [2, 'ü']), ['x', 'ü', 'à']);
+    assert.deepEqual(paintedBy([2, 'éèéèéèéèéèéèé']), ['éèéèéèéèéèéè', 'é']);
+});
+
+/** The runs of pieces, of so many columns each. */
+function runsOf(pieces, columnsOf) {
+    const runs = [];
+    for (const piece of pieces) {
+        const size = [...piece].length, columns = columnsOf(piece), last = runs.at(-1);
+        if (last?.[1] === size && last[2] === columns) last[0]++;
+        else runs.push([1, size, columns]);
+    }
+    return runs.flat();
+}
+
+/** Random changes whose texts are cut by node's own tables of graphemes. */
+function changesByTables(random, segmenter, width, height) {
+    const parts = ['a', ' ', 'é', 'e\u0301', '\u0301', '\u200d', '\u0600', '\x07', '👩', '🇩', '🇪',
+        'か', 'क', '\u094d', '\u0e33', '한', '\u11a8', '\ufe0f', '\u20e3', '1'];
+    const print = () => {
+        const text = Array.from({ length: 1 + random(8) }, () => random.pick(parts)).join('');
+        const pieces = Array.from(segmenter.segment(text), ({ segment }) => segment);
+        const columns = piece => 1 + /[か👩]/u.test(piece);
+        const needed = pieces.some(piece => columns(piece) > 1 || [...piece].length > 1);
+        return needed ? [2, text, runsOf(pieces, columns)] : [2, text];
+    };
+    const move = () => [6, [1, random(width)], [1, random(height)]];
+    const changes = Array.from({ length: 30 }, () => (random(3) ? print() : move()));
+    return allowed(changes, width, height);
+}
+
+test("a viewer's tables cut the texts of a repaint as the repaint says", () => {
+    const random = randomFrom(9), segmenter = new Intl.Segmenter('en', { granularity: 'grapheme' });
+    let several = 0;
+    for (let k = 0; k < 1000; k++) {
+        const client = new Client(), size = [1 + random(20), 1 + random(6)];
+        client.feed(repaint(...size, 1, ...changesByTables(random, segmenter, ...size)));
+        assert.equal(client.fault, null);
+        for (const [kind, text, runs] of judgeRepaint(client.screen)) {
+            if (kind !== 2n) continue;
+            const pieces = Array.from(segmenter.segment(text), ({ segment }) => [...segment].length);
+            const sizes = (runs ?? [[...text].length, 1]).flatMap((_, at, all) =>
+                (at % 3 ? [] : Array(Number(all[at])).fill(Number(all[at + 1]))));
+            assert.deepEqual(pieces, sizes);
+            several += pieces.length > 1 && /[^ -~]/.test(text);
+        }
+    }
+    assert.ok(several > 1000, several);
+});
+
+test('a repaint clears what is blank, and moves past what is new', () => {
+    const client = new Client();
+    client.feed(repaint(40, 3, 1, [6, [1, 0], [1, 1]], [1, [0, null, 4, null, null]], [5, 4],
+        [6, [1, 30], [1, 0]], [1, [0, null, null, null, null]], [2, 'x']));
+    assert.deepEqual(judgeRepaint(client.screen), [
+        [6n, [1n, 30n], [1n, 0n]], [2n, 'x'], [6n, [1n, 0n], [1n, 1n]], [4n, 4n],
+        [6n, [1n, 0n], [1n, 2n]], [4n, 4n], [6n, [1n, 31n], [1n, 0n]],
+        [1n, [0n, null, null, null, null]],
+    ]);
+});
+
+test('what has no repaint, or a too long one', () => {
+    const client = new Client();
+    assert.throws(() => encodeRepaint(client.screen),
+        { name: 'RangeError', message: 'a screen of no surface, which has no repaint' });
+    client.feed(repaint(4, 1, 5, [2, 'ab']));
+    const { length } = encodeRepaint(client.screen);
+    assert.equal(encodeRepaint(client.screen, { bytes: length }).length, length);
+    assert.throws(() => encodeRepaint(client.screen, { bytes: length - 1 }),
+        { name: 'RangeError', message: `a repaint of more than ${length - 1} bytes` });
+    const link = ['https://a.example/'.padEnd(1 << 20, 'x'), false, []];
+    const pen = style => [1, [style, null, null, null, style ? link : null]];
+    const everyOther = [2, 'x\r\n\r\n'.repeat(39)], second = [6, [1, 0], [1, 1]];
+    client.feed(repaint(1, 80, 6, pen(1), everyOther, second, pen(0), everyOther));
+    assert.equal(client.fault, null);
+    assert.throws(() => encodeRepaint(client.screen),
+        { name: 'RangeError', message: 'a repaint of more than 16777216 bytes' });
 });
 
 const program = fileURLToPath(new URL('../watch.mjs', import.meta.url));

@@ -1,5 +1,5 @@
-// Each line of vectors.txt, whole, cut in two at every place, and byte by byte. Run it by
-// `node --test test/vectors.mjs`.
+// Each line of vectors.txt, whole, cut in two at every place, and byte by byte; and the repaint of
+// each screen that they lead to. Run it by `node --test test/vectors.mjs`.
 //
 //     ok WHAT HEX WHY                   a whole answer, change or ask
 //     show N HEX SCREEN WHY             what N answers lead to, as `surfwatch` prints it, in hex
@@ -12,15 +12,18 @@ import { readHead } from '../answer.mjs';
 import { Reader } from '../reader.mjs';
 import { Client, decodeAsk, encodeAsk, styleOf } from '../tikeburo.mjs';
 import { decode } from './encode.mjs';
+import { judgeRepaint } from './repaints.mjs';
 
 const bytesOf = hex => Uint8Array.from(hex === '-' ? [] : Buffer.from(hex, 'hex'));
 // A repaint of 1,024 columns and 4 rows by one change.
 const inAnswer = change => bytesOf(`87020119040004000481${change}`);
 
 /** What a client makes of a stream in these parts: its screen, and each fault with its place. */
-function resultOf(...parts) {
+const resultOf = (...parts) => resultBy(null, ...parts);
+
+function resultBy(onanswer, ...parts) {
     const faults = [];
-    const client = new Client({ onstale: fault => faults.push(fault) });
+    const client = new Client({ onanswer, onstale: fault => faults.push(fault) });
     parts.forEach(part => client.feed(part));
     if (client.end()) faults.push(client.fault);
     const places = faults.map(({ kind, at, change, answer }) => ({ kind, at, change, answer }));
@@ -28,9 +31,12 @@ function resultOf(...parts) {
     return { screen, rows: screen.rows, text: String(screen), answers, places };
 }
 
-/** The result of the whole stream, after seeing that every other cut leads to it too. */
+/**
+ * The result of the whole stream, after seeing that every other cut leads to it too, and that each
+ * answer's screen has a right repaint.
+ */
 function inAnyChunks(bytes) {
-    const whole = resultOf(bytes);
+    const whole = resultBy(({ screen }) => judgeRepaint(screen), bytes);
     for (let cut = 0; cut <= bytes.length; cut++) {
         assert.deepEqual(resultOf(bytes.subarray(0, cut), bytes.subarray(cut)), whole);
     }

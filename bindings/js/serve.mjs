@@ -3,17 +3,22 @@
 // the stream of its input, live, and with a RECORDING that file, with a player. `--record` keeps
 // the stream with its times. It listens on 127.0.0.1 alone.
 //
-// There is no surface here to ask. Whoever joins is sent the answers since the last repaint, and
-// then each as it comes; who is slow goes on at the newest repaint. At most KEEP bytes are kept.
+// There is no surface here to ask. Whoever joins is sent a repaint of what the stream shows, and
+// then each answer as it comes; who is slow gets another repaint instead of much that is old.
+//
+// What can't be done, and a fault of the stream, is one line on the error output, and status 2.
 import { once } from 'node:events';
-import { createReadStream, createWriteStream, readFileSync } from 'node:fs';
+import { createReadStream, createWriteStream, openSync, readFileSync } from 'node:fs';
 import { createServer } from 'node:http';
+import { pipeline } from 'node:stream/promises';
 import { fileURLToPath } from 'node:url';
 import { parseArgs } from 'node:util';
-import { encodeEntry, isRepaint } from './recording.mjs';
+import { encodeEntry, readRecording } from './recording.mjs';
+import { encodeRepaint } from './repaint.mjs';
 import { Client } from './tikeburo.mjs';
 
-const KEEP = 64 << 20;
+const USAGE = 'usage: serve.mjs [--port N] [--record FILE] [RECORDING]';
+const PORT = 8002, MOST_PORT = 65535;
 const AT_ONCE = 65536;
 const KINDS = { html: 'text/html; charset=utf-8', css: 'text/css', mjs: 'text/javascript' };
 const FILES = ['index.html', 'page.css', 'page.mjs', 'answer.mjs', 'element.mjs', 'grid.mjs',
@@ -25,69 +30,116 @@ const HEADERS = {
     'referrer-policy': 'no-referrer',
     'x-content-type-options': 'nosniff',
 };
+const STREAM = { ...HEADERS, 'content-type': 'application/cbor-seq' };
+const REASONS = {
+    EACCES: 'not allowed', EADDRINUSE: 'another program listens there', EISDIR: 'a folder',
+    ENOENT: 'no such file or folder', ENOSPC: 'no space is left',
+};
 
-/** The answers of a stream since its last repaint. */
+/** What can't be done, and why. */
+class Refusal extends Error {}
+
+const say = text => console.error(text === USAGE ? text : `serve.mjs: ${text}`);
+const reasonOf = error => REASONS[error.code] ?? error.message;
+
+/** What is done with a file, or a refusal. */
+function attempt(file, act) {
+    try {
+        return act();
+    } catch (error) {
+        throw new Refusal(`${file}: ${reasonOf(error)}`);
+    }
+}
+
+/** A live stream: what it shows, and its newest answers. */
 export class Kept {
-    answers = [];
-    first = 0; // the number of the first one that is kept, since the repaint
-    round = 0; // repaints so far
     isOver = false;
-    #size = 0;
+    #answers = [];
+    #first = 0; // the number of the first one that is kept
+    #size = 0; // bytes that are kept
+    #parts = []; // the bytes that came of the next answer
+    #damage = null; // the bytes that show the fault, where no more come
+    #repaint = null; // of what is shown, once a viewer needs it
     #waiting = [];
+    #client = new Client({ onanswer: () => this.#take(), onstale: () => this.#take() });
 
-    put(answer) {
-        if (isRepaint(answer)) {
-            Object.assign(this, { answers: [], first: 0, round: this.round + 1 });
-            this.#size = 0;
+    constructor({ onfault = null } = {}) {
+        this.onfault = onfault;
+    }
+
+    /** Takes the stream's next bytes, cut anywhere. What is behind a fault is left out. */
+    put(bytes) {
+        for (let at = 0; at < bytes.length && !this.isOver; at += AT_ONCE) {
+            const part = bytes.subarray(at, at + AT_ONCE);
+            this.#parts.push(part);
+            this.#client.feed(part);
+            if (!this.#client.fault) continue;
+            this.#damage = Buffer.concat(this.#parts);
+            this.end();
         }
-        this.answers.push(answer);
-        this.#size += answer.length;
-        for (; this.#size > KEEP; this.first++) this.#size -= this.answers.shift().length;
-        this.#wake();
     }
 
     end() {
+        if (this.isOver) return;
         this.isOver = true;
+        const fault = this.#client.end();
+        if (fault) this.onfault?.(fault);
         this.#wake();
+    }
+
+    /** Keeps an answer that is whole, and as many before it as are worth sending. */
+    #take() {
+        const bytes = this.#parts.length > 1 ? Buffer.concat(this.#parts) : this.#parts[0];
+        const length = bytes.length - this.#client.pending;
+        this.#parts = length < bytes.length ? [bytes.subarray(length)] : [];
+        this.#repaint = null;
+        this.#answers.push(bytes.subarray(0, length));
+        this.#size += length;
+        for (; this.#size > this.#most; this.#first++) this.#size -= this.#answers.shift().length;
+        this.#wake();
+    }
+
+    /** The bytes of answers above which a repaint is sent instead, as a surface does. */
+    get #most() {
+        const { width, height } = this.#client.screen;
+        return width ? 64 + 4 * width * height : AT_ONCE;
     }
 
     #wake() {
         this.#waiting.splice(0).forEach(done => done());
     }
 
-    /** What one viewer is sent, as it comes. */
-    async *follow() {
-        for (let round = 0, next = 0; ;) {
-            if (round !== this.round) [round, next] = [this.round, 0];
-            const part = this.answers.slice(Math.max(0, next - this.first));
-            next = this.first + this.answers.length;
-            if (part.length) yield Buffer.concat(part);
-            else if (this.isOver) return;
-            else await new Promise(done => this.#waiting.push(done));
+    /** The repaint of what is shown; nothing before the first one, or where it is too long. */
+    #paint() {
+        try {
+            this.#repaint ??= encodeRepaint(this.#client.screen);
+        } catch (error) {
+            if (!(error instanceof RangeError)) throw error;
         }
+        return this.#repaint;
+    }
+
+    /** What one viewer is sent, as it comes: the damage too, so that it sees what the fault is. */
+    async *follow() {
+        for (let next = -1; ;) {
+            const repaint = next < this.#first && this.#paint();
+            const parts = repaint ? [repaint] : this.#answers.slice(Math.max(0, next - this.#first));
+            next = this.#first + this.#answers.length;
+            if (parts.length) yield Buffer.concat(parts);
+            else if (!this.isOver) await new Promise(done => this.#waiting.push(done));
+            else break;
+        }
+        if (this.#damage) yield this.#damage;
     }
 }
 
-/** Puts a stream's whole answers into `kept`, and its bytes into the recording. */
+/** Puts a stream into `kept`, and its bytes into the recording. */
 async function readStream(input, kept, record) {
-    const began = Date.now(), client = new Client();
-    let rest = Buffer.alloc(0);
-    const take = () => {
-        const length = rest.length - client.pending;
-        kept.put(rest.subarray(0, length));
-        rest = rest.subarray(length);
-    };
-    client.onanswer = client.onstale = take;
+    const began = Date.now();
     for await (const chunk of input) {
         record?.write(encodeEntry(Date.now() - began, chunk));
-        for (let at = 0; at < chunk.length && !client.fault; at += AT_ONCE) {
-            const part = chunk.subarray(at, at + AT_ONCE);
-            rest = Buffer.concat([rest, part]);
-            client.feed(part);
-        }
+        kept.put(chunk);
     }
-    const fault = client.end();
-    if (fault) console.error(`answer ${fault.answer}: ${fault.message}`);
     kept.end();
 }
 
@@ -106,14 +158,26 @@ const drained = response => new Promise(done => {
     response.on('drain', go).on('close', go);
 });
 
-async function sendStream(response, source) {
-    response.writeHead(200, { ...HEADERS, 'content-type': 'application/cbor-seq' });
-    if (typeof source === 'string') return createReadStream(source).pipe(response);
-    for await (const bytes of source.follow()) {
-        if (response.destroyed) return undefined;
+async function sendStream(response, kept) {
+    response.writeHead(200, STREAM);
+    for await (const bytes of kept.follow()) {
+        if (response.destroyed) return;
         if (!response.write(bytes)) await drained(response);
     }
-    return response.end();
+    response.end();
+}
+
+async function sendRecording(response, file) {
+    const input = createReadStream(file);
+    try {
+        await once(input, 'open');
+    } catch (error) {
+        say(`${file}: ${reasonOf(error)}`);
+        response.writeHead(404, HEADERS).end();
+        return;
+    }
+    response.writeHead(200, STREAM);
+    await pipeline(input, response).catch(() => response.destroy()); // or the viewer is gone
 }
 
 /** Only pages of this server read it: another name for 127.0.0.1 isn't answered. */
@@ -122,13 +186,14 @@ export function answer(request, response, source, port) {
     const isOwn = [`127.0.0.1:${port}`, `localhost:${port}`].includes(request.headers.host);
     if (request.method === 'GET' && isOwn) {
         if (FILES.includes(name)) return sendFile(response, name);
-        if (name === 'stream') return sendStream(response, source);
+        const send = typeof source === 'string' ? sendRecording : sendStream;
+        if (name === 'stream') return send(response, source);
     }
     response.writeHead(isOwn ? 404 : 403, HEADERS);
     return response.end();
 }
 
-export async function serve({ port = 8002, source }) {
+export async function serve({ port = PORT, source }) {
     const server = createServer((request, response) =>
         answer(request, response, source, server.address().port));
     server.listen(port, '127.0.0.1');
@@ -136,15 +201,71 @@ export async function serve({ port = 8002, source }) {
     return server;
 }
 
-async function main() {
-    const options = { port: { type: 'string' }, record: { type: 'string' } };
-    const { values, positionals } = parseArgs({ options, allowPositionals: true });
-    const [file] = positionals, source = file ?? new Kept();
-    const server = await serve({ port: Number(values.port ?? 8002), source });
-    const mode = file ? '?controls' : '';
-    console.error(`http://127.0.0.1:${server.address().port}/${mode}`);
-    if (file) return;
-    await readStream(process.stdin, source, values.record && createWriteStream(values.record));
+/** The options, or nothing where they are others. */
+function optionsOf(args) {
+    const options = {
+        port: { type: 'string' }, record: { type: 'string' }, help: { type: 'boolean', short: 'h' },
+    };
+    let parsed;
+    try {
+        parsed = parseArgs({ args, options, allowPositionals: true });
+    } catch {
+        throw new Refusal(USAGE);
+    }
+    const { values: { port = String(PORT), record, help }, positionals: [file, ...more] } = parsed;
+    if (!/^\d{1,5}$/.test(port) || port > MOST_PORT) {
+        throw new Refusal(`--port ${port}: a port is a number from 0 to ${MOST_PORT}`);
+    }
+    if (more.length) throw new Refusal(USAGE);
+    if (file && record) throw new Refusal('--record keeps the stream of the input, and no file');
+    return { port: Number(port), record, help, file };
 }
 
-if (process.argv[1] === fileURLToPath(import.meta.url)) await main();
+/** Refuses a file of which nothing can be played. Of a damaged one the beginning is played. */
+function checkRecording(file) {
+    const { entries, fault } = readRecording(attempt(file, () => readFileSync(file)));
+    const client = new Client(), rest = [...entries];
+    while (rest.length && !client.answers && !client.fault) client.feed(rest.shift().bytes);
+    if (!client.answers) {
+        const why = client.end() ?? fault;
+        throw new Refusal(`${file}: no recording${why ? ` (${why.message})` : ', since it is empty'}`);
+    }
+    if (fault) say(`${file}: cut or damaged (${fault.message}), and played up to there`);
+}
+
+/** The stream that a live stream is recorded by. */
+function openRecord(file) {
+    const fd = attempt(file, () => openSync(file, 'w'));
+    const record = createWriteStream(file, { fd });
+    record.on('error', error => say(`${file}: no longer written (${reasonOf(error)})`));
+    return record;
+}
+
+async function start({ port, record, file }) {
+    if (file) checkRecording(file);
+    const onfault = fault => console.error(`answer ${fault.answer}: ${fault.message}`);
+    const source = file ?? new Kept({ onfault });
+    const server = await serve({ port, source }).catch(error => {
+        throw new Refusal(`port ${port}: ${reasonOf(error)}`);
+    });
+    const kept = record && openRecord(record), mode = file ? '?controls' : '';
+    console.error(`http://127.0.0.1:${server.address().port}/${mode}`);
+    if (file) return;
+    await readStream(process.stdin, source, kept).catch(error => {
+        throw new Refusal(`input: ${reasonOf(error)}`);
+    });
+}
+
+async function main(args) {
+    try {
+        const options = optionsOf(args);
+        if (options.help) console.log(USAGE);
+        else await start(options);
+    } catch (error) {
+        if (!(error instanceof Refusal)) throw error;
+        say(error.message);
+        process.exit(2);
+    }
+}
+
+if (process.argv[1] === fileURLToPath(import.meta.url)) await main(process.argv.slice(2));

@@ -1,8 +1,10 @@
 // programs.mjs SURFSEND SURFWATCH [COUNT [SEED]] lets the one program send random scripts (as in
 // docs/SCRIPT.md), and compares what the other one prints of the stream with what the client shows,
 // byte by byte: after each answer, and where the stream is cut or damaged. It ends with
-// `N passed, M failed`, and status 1 where any failed.
+// `N passed, M failed`, and status 1 where any failed. Where no programs are given, as by
+// `node --test`, it is a test that is left out.
 import { spawnSync } from 'node:child_process';
+import test from 'node:test';
 import { Client } from '../tikeburo.mjs';
 import { randomFrom } from './random.mjs';
 
@@ -69,24 +71,32 @@ function agree(random, surfwatch, bytes) {
     return stderr.includes(': measure') || shown(random, bytes) === String(stdout) + stderr;
 }
 
-const [surfsend, surfwatch, count = 2000, seed = 1] = process.argv.slice(2);
-if (!surfwatch) {
-    console.error('usage: programs.mjs SURFSEND SURFWATCH [COUNT [SEED]]');
-    process.exit(2);
-}
-let passed = 0, failed = 0;
-for (let k = 0; k < Number(count) && failed < 5; k++) {
-    const random = randomFrom(Number(seed) * 1000003 + k), { words, script } = randomScript(random);
-    const streams = variants(random, run(surfsend, words, script).stdout);
-    const wrong = (k % 4 ? streams.slice(0, 1) : streams).findIndex(bytes =>
-        !agree(random, surfwatch, bytes));
-    if (wrong < 0) {
-        passed++;
-    } else {
-        failed++;
-        console.log(`FAILED: script ${k} of seed ${seed} on ${words.join('x')},`
-            + ` ${['whole', 'cut', 'damaged'][wrong]}\n${script}`);
+function compare(surfsend, surfwatch, count, seed) {
+    let passed = 0, failed = 0;
+    for (let k = 0; k < Number(count) && failed < 5; k++) {
+        const random = randomFrom(Number(seed) * 1000003 + k);
+        const { words, script } = randomScript(random);
+        const streams = variants(random, run(surfsend, words, script).stdout);
+        const wrong = (k % 4 ? streams.slice(0, 1) : streams).findIndex(bytes =>
+            !agree(random, surfwatch, bytes));
+        if (wrong < 0) {
+            passed++;
+        } else {
+            failed++;
+            console.log(`FAILED: script ${k} of seed ${seed} on ${words.join('x')},`
+                + ` ${['whole', 'cut', 'damaged'][wrong]}\n${script}`);
+        }
     }
+    console.log(`${passed} passed, ${failed} failed`);
+    return failed ? 1 : 0;
 }
-console.log(`${passed} passed, ${failed} failed`);
-process.exitCode = failed ? 1 : 0;
+
+const [surfsend, surfwatch, count = 2000, seed = 1] = process.argv.slice(2);
+if (surfwatch) {
+    process.exitCode = compare(surfsend, surfwatch, count, seed);
+} else if (surfsend) {
+    console.error('usage: programs.mjs SURFSEND SURFWATCH [COUNT [SEED]]');
+    process.exitCode = 2;
+} else {
+    test('random scripts', { skip: 'SURFSEND and SURFWATCH are not given' });
+}

@@ -70,16 +70,26 @@ const LINE_HEIGHT = 1.25; // of the font's size
 const SMALLEST = 2, GREATEST_FONT = 64; // a cell's width and a font's size, in CSS pixels
 const LONGEST_CELL = 256; // no hostile cell of a million marks is laid out
 
-function makeRow() {
-    const row = document.createElement('div');
-    row.append(document.createElement('span'));
-    return row;
+/** A row's element, and what it was drawn from: the screen's row, and what is shown of that. */
+class DrawnRow {
+    element = document.createElement('div');
+    row = null;
+    version = 0;
+    key = '';
+
+    constructor() {
+        this.element.append(document.createElement('span'));
+    }
+
+    shows(row) {
+        return this.row === row && this.version === row.version;
+    }
 }
 
 export class Grid {
     element = document.createElement('div');
-    #rows = []; // the elements, and what they were made of
-    #keys = [];
+    #rows = []; // as they are drawn
+    #width = 0;
     #cursor = document.createElement('div');
     #probe = document.createElement('span');
     #cell = 9.6; // CSS pixels
@@ -88,6 +98,7 @@ export class Grid {
 
     constructor() {
         this.element.setAttribute('part', 'grid');
+        this.element.append(this.#cursor);
         this.#probe.textContent = 'x'.repeat(50);
         this.#probe.style.cssText = 'position:absolute;visibility:hidden;font-size:100px;'
             + 'line-height:1;pointer-events:none;user-select:none;contain:strict;width:0;height:0';
@@ -111,7 +122,12 @@ export class Grid {
             + `font-size:${font}px;line-height:${this.#row}px`;
         if (css === this.#drawn) return;
         this.#drawn = this.element.style.cssText = css;
-        this.#keys = [];
+        this.#forget();
+    }
+
+    /** Has all rows drawn anew. */
+    #forget() {
+        for (const drawn of this.#rows) Object.assign(drawn, { row: null, key: '' });
     }
 
     /** A character's width, in font sizes. */
@@ -124,28 +140,58 @@ export class Grid {
         return width / 5000 || 0.6;
     }
 
+    /** Draws the rows that changed. Those that were scrolled keep their elements. */
     draw(screen) {
-        while (this.#rows.length > screen.height) this.#rows.pop().remove();
-        while (this.#rows.length < screen.height) this.#rows.push(makeRow());
-        this.#keys.length = screen.height;
-        this.#rows.forEach((row, y) => this.#drawRow(row, y, screen));
-        if (this.element.childElementCount !== screen.height + 1) {
-            this.element.replaceChildren(...this.#rows, this.#cursor);
-        }
+        const { rows, width } = screen;
+        if (width !== this.#width) this.#forget();
+        this.#width = width;
+        const isShown = rows.length === this.#rows.length
+            && rows.every((row, y) => this.#rows[y].row === row);
+        if (!isShown) this.#arrange(rows);
+        rows.forEach((row, y) => {
+            if (!this.#rows[y].shows(row)) this.#drawRow(this.#rows[y], y, screen);
+        });
         this.#drawCursor(screen);
     }
 
-    /** Draws a row unless it is as it was. */
-    #drawRow(row, y, screen) {
-        const spans = spansOf(screen, y), { attribute } = screen.rows[y];
+    /** Puts the elements where the rows are that they show now. */
+    #arrange(rows) {
+        const before = this.#rows;
+        const next = rows.map((row, y) => (before[y]?.row === row ? before[y] : null));
+        const others = new Set(before.filter((drawn, y) => drawn !== next[y]));
+        const fill = take => rows.forEach((row, y) => {
+            next[y] ??= take(row, y) ?? null;
+            others.delete(next[y]);
+        });
+        const moved = new Map(); // by their rows, which may be one where they are blank
+        for (const drawn of [...others].reverse()) {
+            if (!moved.get(drawn.row)?.push(drawn)) moved.set(drawn.row, [drawn]);
+        }
+        fill(row => moved.get(row)?.pop());
+        fill((_, y) => (others.has(before[y]) ? before[y] : null));
+        const free = [...others];
+        free.forEach(({ element }) => element.remove());
+        const taken = free.values();
+        fill(() => taken.next().value ?? new DrawnRow());
+        this.#rows = next;
+        let place = this.element.firstChild;
+        for (const { element } of next) {
+            if (element === place) place = place.nextSibling;
+            else this.element.insertBefore(element, place);
+        }
+    }
+
+    /** Draws a row unless it looks as it did. */
+    #drawRow(drawn, y, screen) {
+        const row = screen.rows[y], spans = spansOf(screen, y);
         const parts = spans.map(({ text, columns, look, attributes }) =>
             [text, columns, look.css, look.classes, attributes.link?.uri]);
-        const key = JSON.stringify([attribute, parts]);
-        if (key === this.#keys[y]) return;
-        this.#keys[y] = key;
-        row.className = ROW_CLASSES[attribute];
-        row.style.height = `${this.#row}px`;
-        row.firstChild.replaceChildren(...spans.map(span => this.#makeSpan(span)));
+        const key = JSON.stringify([row.attribute, parts]), isSame = key === drawn.key;
+        Object.assign(drawn, { row, version: row.version, key });
+        if (isSame) return;
+        drawn.element.className = ROW_CLASSES[row.attribute];
+        drawn.element.style.height = `${this.#row}px`;
+        drawn.element.firstChild.replaceChildren(...spans.map(span => this.#makeSpan(span)));
     }
 
     #makeSpan({ text, columns, attributes, look, isPlain }) {

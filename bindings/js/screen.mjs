@@ -26,7 +26,8 @@ class Cell {
 
 const blank = attributes => new Cell(' ', 1, attributes, NaN); // behind none
 /** A row of blanks, which is shared: `cells` are made where it is first written to. */
-const blankRow = (rest, attribute) => Object.freeze({ cells: null, rest, attribute });
+const blankRow = (rest, attribute) =>
+    Object.freeze({ cells: null, rest, attribute, version: 0 });
 const DEFAULT_ROW = blankRow(blank(DEFAULT_ATTRIBUTES), 3); // of single width
 
 /** Has a row's cells up to column `x`, before which only a blank is left of one of two columns. */
@@ -77,10 +78,12 @@ export class Screen {
         return `viewer ${this.number}\n${rows}cursor ${this.cursor.x} ${this.cursor.y}\n`;
     }
 
-    /** Row `y`, to write to. */
+    /** Row `y`, to write to: from now on it has another version. */
     #row(y) {
-        const at = this.#top + y, row = this.#rows[at];
-        return row.cells ? row : this.#rows[at] = { ...row, cells: [] };
+        const at = this.#top + y;
+        if (!this.#rows[at].cells) this.#rows[at] = { ...this.#rows[at], cells: [] };
+        this.#rows[at].version++;
+        return this.#rows[at];
     }
 
     /** Sets the attribute of the cursor's row. */

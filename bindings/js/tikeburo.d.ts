@@ -76,6 +76,11 @@ export interface Cell {
 export interface Row {
     /** 0 double height, top half; 1 double height, bottom half; 2 double width; 3 single width. */
     readonly attribute: 0 | 1 | 2 | 3;
+    /**
+     * Goes up with each change of this object. While a screen has its width, a row that is the same
+     * object with the same version shows the same, wherever a scroll has moved it.
+     */
+    readonly version: number;
 }
 
 export interface Cursor {

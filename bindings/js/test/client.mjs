@@ -200,6 +200,38 @@ test('line feeds and scrolls move rows, and copy no cells', () => {
     assert.ok(many.steps < 4 * 100000, many.steps);
 });
 
+test('a row with its version shows what it did, and only rows that are written have another', () => {
+    const random = randomFrom(300), shown = new Map(); // what each row and version showed
+    let client = null, number = 0, same = 0, others = 0;
+    for (let k = 0; k < 1000; k++) {
+        if (!random(8)) client = null;
+        const size = client ? [client.screen.width, client.screen.height]
+            : [1 + random(20), 1 + random(40)];
+        const changes = allowed(randomChanges(random, ...size).slice(0, 4), ...size);
+        const before = client?.screen.rows.map(row => [row, row.version]);
+        const answer = sequence([2, 1, ...size, client ? number : 0, ++number, changes]);
+        if (!client) shown.clear();
+        client ??= new Client();
+        client.feed(answer);
+        const { screen } = client;
+        screen.rows.forEach((row, y) => {
+            const versions = shown.get(row) ?? [], content = [row.attribute, ...screen.cells(y)];
+            shown.set(row, versions);
+            if (versions[row.version]) assert.deepEqual(content, versions[row.version]);
+            versions[row.version] = content;
+        });
+        before?.forEach(([row, version], y) => {
+            if (screen.rows[y] === row && row.version === version) same++;
+            else others++;
+        });
+        if (changes.every(([kind]) => [0, 1, 6, 7, 8, 9, 12].includes(kind))) {
+            before?.forEach(([row, version], y) =>
+                assert.deepEqual([screen.rows[y] === row, row.version], [true, version]));
+        }
+    }
+    assert.ok(same > 2 * others, `${same} and ${others}`);
+});
+
 test('great screens, and scrolls of all their rows', () => {
     const rows = 1 << 20, client = new Client({ rows });
     client.feed(repaint(1, rows, 1, [2, 'x'], [10, 0, rows, rows], [11, 0, rows, 1], [2, 'y\n']));

@@ -164,6 +164,72 @@ test('30 random screens, in the document and in screenshots', { skip }, async ()
     assert.deepEqual(names.filter(name => !['div', 'span', 'a'].includes(name)), []);
 });
 
+/**
+ * Has `takeSteps()` in the page say how often a row's cells were read since it was called last, and
+ * how many rows were drawn, or put elsewhere.
+ */
+const countSteps = page => page.evaluate(`(async () => {
+    const { Screen } = await import(new URL('tikeburo.mjs', location));
+    const { cells } = Screen.prototype, isRow = node => node.classList?.contains('row');
+    let read = 0, seen = [];
+    Screen.prototype.cells = function count(y) {
+        read++;
+        return cells.call(this, y);
+    };
+    const observer = new MutationObserver(records => seen.push(...records));
+    observer.observe(${ROOT}.querySelector('[part=grid]'), { childList: true, subtree: true });
+    globalThis.takeSteps = () => {
+        const all = [...seen, ...observer.takeRecords()];
+        const records = all.filter(({ addedNodes }) => addedNodes.length);
+        const drawn = records.filter(({ target }) => isRow(target.parentNode)).length;
+        const moved = records.filter(({ addedNodes }) => isRow(addedNodes[0])).length;
+        const steps = { read, drawn, moved };
+        read = 0;
+        seen = [];
+        return steps;
+    };
+})()`);
+
+test('a drawing reads and draws the rows that changed alone', { skip }, async () => {
+    const height = 200, kept = new Kept(), client = new Client();
+    let number = 0;
+    const put = (...changes) => {
+        const answer = sequence([2, 9, 40, height, number, ++number, changes]);
+        kept.put(answer);
+        client.feed(answer);
+        assert.equal(client.fault, null);
+    };
+    put([2, Array.from({ length: height - 50 }, (_, y) => `row ${y}`).join('\r\n')]);
+    const page = await open(kept);
+    await page.until(numberIs(1));
+    await drawn(page);
+    await countSteps(page);
+    const stepsOf = async (...changes) => {
+        put(...changes);
+        await page.evaluate(`new Promise(done => {
+            const see = () => ${ELEMENT}.screen.number === ${number}n && done();
+            ${ELEMENT}.addEventListener('screen', see);
+            see();
+        })`);
+        await drawn(page);
+        const { read, drawn: rows, moved } = await page.evaluate('takeSteps()');
+        await judgeCells(page, client.screen);
+        await page.evaluate('takeSteps()');
+        return [read, rows, moved];
+    };
+    const to = y => [6, [1, 0], [1, y]], clear = [1, [0, null, null, null, null]];
+    // Rows that are read, drawn and put elsewhere. The one that the cursor is in is read once more.
+    // Blank rows are one object, and any element of theirs is put where one comes to stand.
+    assert.deepEqual(await stepsOf([12, 'a title']), [1, 0, 0]);
+    assert.deepEqual(await stepsOf(to(7), [2, 'x']), [2, 1, 0]);
+    assert.deepEqual(await stepsOf(to(7), [2, 'x']), [2, 0, 0]); // it is as it was
+    assert.deepEqual(await stepsOf(to(190), clear, [2, 'in a blank row']), [2, 1, 0]);
+    assert.deepEqual(await stepsOf([10, 0, height, 1]), [2, 1, 2]);
+    assert.deepEqual(await stepsOf([11, 50, 100, 3]), [3, 2, 3]);
+    assert.deepEqual(await stepsOf(to(199), [2, 'one\r\ntwo\r\nthree']), [4, 3, 8]);
+    assert.deepEqual(await stepsOf(to(20), [13, 2], [6, [1, 3], [1, 20]], [4, 5]), [2, 1, 0]);
+});
+
 test('the demo is played, there and back', { skip }, async () => {
     const page = await open(demo, '?controls&speed=8');
     const { entries } = readRecording(readFileSync(demo)), player = new Player(entries);

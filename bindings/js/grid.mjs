@@ -1,23 +1,12 @@
 // A screen as a grid of rows and spans. Nothing of a stream becomes anything but text, a colour or
 // a number here, and each cell is isolated and clipped.
-import { addressOf, cssColor, spansOf } from './look.mjs';
+import { addressOf, COLORS, NAMES, Palette, spansOf } from './look.mjs';
 
-const DARK = ['#1d2330', '#e05f65', '#78c28a', '#dcb862', '#6a9cf0', '#b98ae0', '#5bb8c0',
-    '#c8ccd4', '#5c6478', '#ff8087', '#98e0a6', '#f6d585', '#8fb8ff', '#d6b0f5', '#86dbe2',
-    '#ffffff'];
-const LIGHT = ['#2a303c', '#c2333b', '#22803f', '#96690a', '#2a5fc4', '#8440b4', '#10767f',
-    '#8b93a1', '#6b7385', '#e04850', '#35a055', '#b98516', '#4a80e8', '#a45cd6', '#2096a0',
-    '#b4bbc7'];
+/** A look's colours as CSS properties. */
+const lookCss = look => `color-scheme: ${look}; `
+    + NAMES.map((name, k) => `--${name}: ${COLORS[look][k]};`).join(' ');
 
-/** A look's colours: text, ground, cursor, and the palette's first 16. */
-function lookCss(scheme, [front, back, cursor], colors) {
-    const palette = colors.map((color, n) => `--color-${n}: ${color};`).join(' ');
-    return `color-scheme: ${scheme}; --front: ${front}; --back: ${back}; --cursor: ${cursor};`
-        + ` ${palette}`;
-}
-
-const DARK_CSS = lookCss('dark', ['#d8dee9', '#10141b', '#f2f4f8'], DARK);
-const LIGHT_CSS = lookCss('light', ['#2a303c', '#fdfdfb', '#20242c'], LIGHT);
+const DARK_CSS = lookCss('dark'), LIGHT_CSS = lookCss('light');
 
 export const STYLES = `
 :host { display: block; ${DARK_CSS} background: var(--back); color: var(--front);
@@ -90,6 +79,8 @@ export class Grid {
     element = document.createElement('div');
     #rows = []; // as they are drawn
     #width = 0;
+    #colors = null; // as the page's CSS has them
+    #palette = null;
     #cursor = document.createElement('div');
     #probe = document.createElement('span');
     #cell = 9.6; // CSS pixels
@@ -140,9 +131,29 @@ export class Grid {
         return width / 5000 || 0.6;
     }
 
+    /** Takes the colours that the page's CSS has now. */
+    #readColors() {
+        const style = getComputedStyle(this.element);
+        const colors = NAMES.map(name => style.getPropertyValue(`--${name}`)).join(';');
+        if (colors === this.#colors) return;
+        this.#colors = colors;
+        this.#palette = new Palette(Object.fromEntries(NAMES.map(name => [name, this.#parts(name)])));
+        this.#forget();
+    }
+
+    /** A colour as [red, green, blue], or nothing where it is no opaque colour of sRGB. */
+    #parts(name) {
+        this.element.append(this.#probe);
+        this.#probe.style.color = `var(--${name})`;
+        const { color } = getComputedStyle(this.#probe);
+        this.#probe.remove();
+        return /^rgb\((\d+), (\d+), (\d+)\)$/.exec(color)?.slice(1).map(Number) ?? null;
+    }
+
     /** Draws the rows that changed. Those that were scrolled keep their elements. */
     draw(screen) {
         const { rows, width } = screen;
+        this.#readColors();
         if (width !== this.#width) this.#forget();
         this.#width = width;
         const isShown = rows.length === this.#rows.length
@@ -183,9 +194,9 @@ export class Grid {
 
     /** Draws a row unless it looks as it did. */
     #drawRow(drawn, y, screen) {
-        const row = screen.rows[y], spans = spansOf(screen, y);
-        const parts = spans.map(({ text, columns, look, attributes }) =>
-            [text, columns, look.css, look.classes, attributes.link?.uri]);
+        const row = screen.rows[y], spans = spansOf(screen, y, this.#palette);
+        const parts = spans.map(({ text, columns, css, classes, attributes }) =>
+            [text, columns, css, classes, attributes.link?.uri]);
         const key = JSON.stringify([row.attribute, parts]), isSame = key === drawn.key;
         Object.assign(drawn, { row, version: row.version, key });
         if (isSame) return;
@@ -194,12 +205,12 @@ export class Grid {
         drawn.element.firstChild.replaceChildren(...spans.map(span => this.#makeSpan(span)));
     }
 
-    #makeSpan({ text, columns, attributes, look, isPlain }) {
+    #makeSpan({ text, columns, attributes, css, classes, isPlain }) {
         const { link } = attributes, address = link && addressOf(link);
         const span = document.createElement(address ? 'a' : 'span');
-        span.className = `cell${isPlain ? '' : ' alone'}${look.classes}`;
-        span.style.cssText = `width:${columns * this.#cell}px;${look.css}`;
-        if (look.classes) span.style.animationDelay = `${-performance.now() % 6000}ms`; // in step
+        span.className = `cell${isPlain ? '' : ' alone'}${classes}`;
+        span.style.cssText = `width:${columns * this.#cell}px;${css}`;
+        if (classes) span.style.animationDelay = `${-performance.now() % 6000}ms`; // in step
         if (link) span.title = address ?? `not opened: ${link.uri}`;
         if (address) {
             const rel = 'noopener noreferrer nofollow';
@@ -220,10 +231,11 @@ export class Grid {
         const at = Math.min(x, screen.width - 1);
         const [column, cell] = [...screen.cells(y)].findLast(([begin]) => begin <= at);
         const columns = Math.min(cell.columns, screen.width - column);
-        const paint = cssColor(color, 'var(--cursor)');
+        const own = this.#palette.paint(color, 'cursor'), paint = own.css;
+        const text = this.#palette.textOn(own, this.#palette.paint(null, 'back'));
         const kind = shape === 0 ? 'block' : ['block', 'underline', 'bar'][shape - 1 >> 1];
         const look = {
-            block: `background:${paint};color:var(--back)`,
+            block: `background:${paint};color:${text}`,
             underline: `border-bottom:2px solid ${paint}`,
             bar: `border-left:2px solid ${paint}`,
         }[kind];

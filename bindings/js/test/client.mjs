@@ -5,9 +5,11 @@ import { spawnSync } from 'node:child_process';
 import { readFileSync } from 'node:fs';
 import test from 'node:test';
 import { fileURLToPath } from 'node:url';
+import { COLORS, NAMES, Palette } from '../look.mjs';
 import { Player, readRecording } from '../recording.mjs';
 import { encodeRepaint } from '../repaint.mjs';
-import { Client } from '../tikeburo.mjs';
+import { Client, DEFAULT_ATTRIBUTES } from '../tikeburo.mjs';
+import { contrast, partsOf } from './contrast.mjs';
 import { sequence } from './encode.mjs';
 import { randomFrom } from './random.mjs';
 import { contentsOf, judgeRepaint } from './repaints.mjs';
@@ -415,6 +417,74 @@ test('what has no repaint, or a too long one', () => {
     assert.equal(client.fault, null);
     assert.throws(() => encodeRepaint(client.screen),
         { name: 'RangeError', message: 'a repaint of more than 16777216 bytes' });
+});
+
+for (const [look, colors] of Object.entries(COLORS)) {
+    const own = Object.fromEntries(NAMES.map((name, k) => [name, partsOf(colors[k])]));
+    const palette = new Palette(own), indexes = Array.from({ length: 16 }, (_, n) => n);
+    /** The colours of a text and of its ground, where its style has this intensity. */
+    const shownOf = (foreground, background, style = 0) => {
+        const { css } = palette.lookOf({ ...DEFAULT_ATTRIBUTES, foreground, background, style });
+        const parts = (name, otherwise) => {
+            const [, value = otherwise] = new RegExp(`(?:^|;)${name}:([^;]*)`).exec(css) ?? [];
+            const [, variable, part] = /var\(--([^)]*)\)(?: (60)%)?/.exec(value) ?? [];
+            const color = variable ? own[variable] : partsOf(value);
+            return part ? color.map((each, k) =>
+                0.6 * each + 0.4 * parts('background-color', 'var(--back)')[k]) : color;
+        };
+        return [parts('color'), parts('background-color', 'var(--back)')];
+    };
+
+    test(`texts can be read, whatever two of the ${look} colours they have`, () => {
+        let raised = 0;
+        for (const foreground of [null, ...indexes]) {
+            for (const background of [null, ...indexes]) {
+                if (foreground === background && foreground !== null) continue;
+                const name = foreground === null ? 'front' : `color-${foreground}`;
+                const ground = background === null ? 'back' : `color-${background}`;
+                for (const style of [0, 1, 2]) {
+                    const [text, back] = shownOf(foreground, background, style);
+                    const found = contrast(text, back);
+                    assert.ok(found >= 2.99, `${found} of ${name} on ${ground}, ${style}`);
+                    assert.deepEqual(back, own[ground]);
+                    if (style === 2) continue;
+                    const isExact = contrast(own[name], own[ground]) >= 3;
+                    if (isExact) assert.deepEqual(text, own[name]);
+                    else assert.ok(found < 3.5, `${found} of ${name} on ${ground}`);
+                    raised += !isExact;
+                }
+            }
+        }
+        assert.ok(raised > 100, raised);
+    });
+
+    test(`usual texts and grounds keep their ${look} colours`, () => {
+        const least = look === 'dark' ? 3 : 1.8; // on light, text of `white` is drawn darker
+        for (const n of indexes.slice(1)) {
+            assert.ok(contrast(own[`color-${n}`], own.back) >= least, `${n} on the ground`);
+        }
+        for (const n of look === 'dark' ? [1, 4, 5] : []) { // grounds of file managers and errors
+            assert.ok(contrast(own.front, own[`color-${n}`]) >= 3, `text on ${n}`);
+            assert.ok(contrast(own['color-15'], own[`color-${n}`]) >= 3, `15 on ${n}`);
+        }
+    });
+
+    test(`exact colours stay in the ${look} look, and what is hidden stays hidden`, () => {
+        const near = [[200, 200, 200], [190, 190, 190]];
+        assert.deepEqual(shownOf(...near), near);
+        assert.deepEqual(shownOf(250, 251), [[188, 188, 188], [198, 198, 198]]);
+        assert.deepEqual(shownOf(4, 4), [own['color-4'], own['color-4']]);
+        const [text] = shownOf(own.back, null); // given by its parts, it isn't known to be the ground
+        assert.ok(contrast(text, own.back) >= 3);
+        const area = palette.lookOf({ ...DEFAULT_ATTRIBUTES, foreground: 6, background: 4 });
+        assert.match(area.area, /^color:var\(--color-6\);background-color:var\(--color-4\);$/);
+    });
+}
+
+test('colours that are not known are drawn as they are', () => {
+    const palette = new Palette(Object.fromEntries(NAMES.map(name => [name, null])));
+    const { css } = palette.lookOf({ ...DEFAULT_ATTRIBUTES, foreground: 6, background: 4 });
+    assert.equal(css, 'color:var(--color-6);background-color:var(--color-4);');
 });
 
 const program = fileURLToPath(new URL('../watch.mjs', import.meta.url));

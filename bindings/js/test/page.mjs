@@ -11,6 +11,7 @@ import { Player, readRecording } from '../recording.mjs';
 import { answer, Kept, serve } from '../serve.mjs';
 import { Client, decodeAsk, styleOf } from '../tikeburo.mjs';
 import { Chromium, findChromium } from './chromium.mjs';
+import { contrast, partsOf } from './contrast.mjs';
 import { sequence } from './encode.mjs';
 import { readPng } from './png.mjs';
 import { randomFrom } from './random.mjs';
@@ -72,18 +73,34 @@ const readRows = page => page.evaluate(`(() => {
 const UNDERLINES = ['solid', 'solid', 'double', 'wavy', 'dotted', 'dashed'];
 const rgb = color => (Array.isArray(color) ? `rgb(${color.slice(0, 3).join(', ')})` : null);
 
+/** Whether one of a text's colours is the palette's, so that the text has to be readable. */
+const isOwn = color => color === null || color < 16;
+
+/** Whether a span's text can be read, and is exact where its own colour can be. */
+function judgeText(span, [front, back], style, own) {
+    const text = rgb(front), ground = span.back === 'rgba(0, 0, 0, 0)' ? own : span.back;
+    const isJudged = isOwn(front) || isOwn(back);
+    const isHidden = String(front) === String(back) && front !== null;
+    if (isJudged && !isHidden) {
+        const found = contrast(partsOf(span.front), partsOf(ground));
+        assert.ok(found >= 2.99, `${span.front} on ${ground}`); // some are mixed by the browser
+    }
+    const isReadable = text && contrast(partsOf(text), partsOf(ground)) >= 3;
+    if (text && style.intensity !== 2 && (isReadable || !isJudged)) assert.equal(span.front, text);
+}
+
 /** Whether a span looks as a cell's attributes say. */
-function judgeLook(span, attributes) {
+function judgeLook(span, attributes, own) {
     const style = styleOf(attributes.style);
     assert.equal(span.weight, style.intensity === 1 ? '700' : '400');
     assert.equal(span.slant, style.italic ? 'italic' : 'normal');
     assert.equal(span.line, style.underline ? 'underline' : 'none');
     if (style.underline) assert.equal(span.shape, UNDERLINES[style.underline]);
     const { foreground: front, background: back } = attributes;
-    const [text, ground] = (style.reverse ? [back, front] : [front, back]).map(rgb);
+    const colors = style.reverse ? [back, front] : [front, back], [, ground] = colors.map(rgb);
     if (ground) assert.equal(span.back, ground);
     if (style.invisible) assert.equal(span.front, 'rgba(0, 0, 0, 0)');
-    else if (text && style.intensity !== 2 && !style.blink) assert.equal(span.front, text);
+    else if (!style.blink) judgeText(span, colors, style, own);
     assert.equal(span.blinks, style.blink ? 'blink' : 'none');
     const isOpened = attributes.link?.uri.trim().startsWith('https://e');
     assert.equal(span.href, isOpened ? new URL(attributes.link.uri).href : null);
@@ -93,6 +110,7 @@ function judgeLook(span, attributes) {
 /** Whether each cell of the screen stands in the page, where it belongs. */
 async function judgeCells(page, screen) {
     const rows = await readRows(page);
+    const own = await page.evaluate(`getComputedStyle(${ELEMENT}).backgroundColor`);
     assert.equal(rows.length, screen.height);
     rows.forEach(({ name, spans }, y) => {
         const { attribute } = screen.rows[y];
@@ -100,7 +118,7 @@ async function judgeCells(page, screen) {
         const scale = attribute < 3 ? 2 : 1, cells = [...screen.cells(y)];
         for (const span of spans) {
             const [x, { attributes }] = cells[0];
-            judgeLook(span, attributes);
+            judgeLook(span, attributes, own);
             assert.equal(span.cut, 'hidden');
             assert.equal(span.bidi, 'isolate');
             assert.ok(Math.abs(span.left / scale - x) < 0.05, `${span.left} for ${x}`);

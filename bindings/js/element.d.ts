@@ -11,10 +11,15 @@ export class TikeburoScreen extends HTMLElement {
     readonly client: Client;
     /** Where the source is a recording. */
     readonly player: Player | null;
-    /** `ready` is said of a recording that is there; `lost` waits for a new connection. */
+    /**
+     * `ready` is said of a recording that is there; `ended`, where the program has ended; `lost`
+     * waits for a new connection.
+     */
     readonly state: 'connecting' | 'live' | 'ready' | 'ended' | 'lost' | undefined;
-    /** What is wrong, or nothing. */
+    /** In words: who has stopped, the program, the server or the connection, or what is wrong. */
     readonly message: string | undefined;
+    /** How large it is shown, by the attribute of this name; 1 is as it fits. */
+    readonly zoom: number;
     /** How fast it plays, by the attribute of this name; 1 is as it was. */
     readonly speed: number;
 

@@ -5,6 +5,7 @@ import { Client } from './tikeburo.mjs';
 
 const FIRST_WAIT = 500, LONGEST_WAIT = 15000; // milliseconds before a new connection
 const LONGEST_FRAME = 1000; // milliseconds that are played in one; a page that sleeps plays none
+const LARGEST = 16; // a zoom
 const ENTRY = 0x82; // a recording's first byte
 const FINAL = ['version', 'limit']; // faults that another connection would bring again
 
@@ -17,6 +18,13 @@ const clock = milliseconds => {
 };
 
 const describe = fault => `answer ${fault.answer}: ${fault.message} (${fault.why})`;
+const LIGHT = '(prefers-color-scheme: light)';
+const ENDED = 'the program has ended';
+
+/** Why no more comes from a source, in words that say who has stopped. */
+class Stopped extends Error {}
+
+const isOffline = () => globalThis.navigator?.onLine === false;
 
 function make(name, part, properties = {}) {
     const made = document.createElement(name);
@@ -28,12 +36,14 @@ const sheet = new CSSStyleSheet();
 sheet.replaceSync(STYLES);
 
 export class TikeburoScreen extends HTMLElement {
-    static observedAttributes = ['src', 'pull', 'fit', 'controls'];
+    static observedAttributes = ['src', 'pull', 'fit', 'controls', 'look', 'zoom'];
     #grid = new Grid();
     #view = make('div', 'view');
     #bar = make('div', 'controls', { hidden: true });
     #status = make('div', 'status', { role: 'status', hidden: true });
     #sizes = new ResizeObserver(() => this.#draw());
+    #system = matchMedia(LIGHT); // the look that the system prefers
+    #relook = () => this.#later();
     #client = new Client();
     #player = null;
     #connection = null; // an AbortController, while there is a source
@@ -73,12 +83,14 @@ export class TikeburoScreen extends HTMLElement {
 
     connectedCallback() {
         this.#sizes.observe(this.#view);
+        this.#system.addEventListener('change', this.#relook);
         document.fonts?.ready.then(() => this.#draw());
         this.#startSoon();
     }
 
     disconnectedCallback() {
         this.#sizes.disconnect();
+        this.#system.removeEventListener('change', this.#relook);
         this.#stop();
     }
 
@@ -116,15 +128,16 @@ export class TikeburoScreen extends HTMLElement {
 
     /** Follows the source, over new connections where one is lost. */
     async #connect(client, signal) {
+        let problem = '';
         for (let wait = FIRST_WAIT; !signal.aborted; wait = Math.min(2 * wait, LONGEST_WAIT)) {
-            let problem = null;
             client.restart();
-            this.#say('connecting', '');
+            this.#say('connecting', problem);
             try {
                 if (await this.#follow(client, signal)) return;
-                problem = describe(client.fault);
+                problem = `${describe(client.fault)}: what the program sends is damaged`;
             } catch (error) {
-                problem = `no connection (${error.message})`;
+                problem = error instanceof Stopped ? error.message
+                    : `this page can't show it (${error.message})`;
             }
             if (signal.aborted) return;
             this.#say('lost', problem);
@@ -139,14 +152,25 @@ export class TikeburoScreen extends HTMLElement {
         const address = this.getAttribute('src'), pulls = this.hasAttribute('pull');
         const isOver = pulls
             ? await this.#pull(client, address, signal) : await this.#read(client, address, signal);
-        if (isOver && !this.#player) this.#say('ended', '');
+        if (isOver && !this.#player) this.#say('ended', ENDED);
         return isOver;
     }
 
     async #fetch(address, options) {
-        const response = await fetch(address, { cache: 'no-store', ...options });
-        if (!response.ok && response.status !== 410) throw new Error(String(response.status));
-        return response;
+        const response = await fetch(address, { cache: 'no-store', ...options }).catch(() => {
+            throw new Stopped(isOffline() ? 'this device has no connection'
+                : "the server doesn't answer: it has stopped, or can't be reached");
+        });
+        if (response.ok || response.status === 410) return response;
+        throw new Stopped(`the server sends no screen, but the status ${response.status}`);
+    }
+
+    /** Waits for what comes over a connection that stands. */
+    async #receive(coming) {
+        return coming.catch(() => {
+            throw new Stopped(isOffline() ? 'this device has lost its connection'
+                : 'the connection is lost: the server has stopped, or the way to it is cut');
+        });
     }
 
     /**
@@ -158,7 +182,7 @@ export class TikeburoScreen extends HTMLElement {
             const options = { method: 'POST', body: client.ask(), signal };
             const response = await this.#fetch(address, options);
             if (response.status === 410) return true;
-            client.feed(new Uint8Array(await response.arrayBuffer()));
+            client.feed(new Uint8Array(await this.#receive(response.arrayBuffer())));
             client.end();
             await nextFrame();
         }
@@ -170,7 +194,7 @@ export class TikeburoScreen extends HTMLElement {
         const response = await this.#fetch(address, { signal }), kept = [];
         let plays = this.hasAttribute('controls');
         for (const reader = response.body.getReader(); !client.fault;) {
-            const { done, value } = await reader.read();
+            const { done, value } = await this.#receive(reader.read());
             if (done) break;
             if (!kept.length && value[0] === ENTRY) plays = true;
             if (plays) kept.push(value);
@@ -195,6 +219,12 @@ export class TikeburoScreen extends HTMLElement {
         this.#note = fault ? `the recording is cut or damaged at byte ${fault.at}` : '';
         this.#judge();
         this.play();
+    }
+
+    /** How large it is shown; 1 is as it fits. */
+    get zoom() {
+        const zoom = Number(this.getAttribute('zoom') ?? 1);
+        return zoom > 0 && zoom <= LARGEST ? zoom : 1;
     }
 
     /** How fast it plays; 1 is as it was. */
@@ -271,7 +301,8 @@ export class TikeburoScreen extends HTMLElement {
     #draw() {
         cancelAnimationFrame(this.#frame);
         this.#frame = 0;
-        this.#grid.fit(this.screen, this.#view, this.getAttribute('fit') ?? 'width');
+        const mode = this.getAttribute('fit') ?? 'width';
+        this.#grid.fit(this.screen, this.#view, mode, this.zoom);
         this.#grid.draw(this.screen);
         this.#drawBar();
         this.dispatchEvent(new CustomEvent('screen'));
@@ -280,6 +311,7 @@ export class TikeburoScreen extends HTMLElement {
     #say(state, text) {
         this.#status.textContent = text;
         this.#status.hidden = !text;
+        this.#status.classList.toggle('wrong', state !== 'ended' && state !== 'live');
         if (this.state === state && this.message === text) return;
         Object.assign(this, { state, message: text });
         this.dispatchEvent(new CustomEvent('state'));

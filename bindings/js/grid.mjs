@@ -11,7 +11,8 @@ const DARK_CSS = lookCss('dark'), LIGHT_CSS = lookCss('light');
 export const STYLES = `
 :host { display: block; ${DARK_CSS} background: var(--back); color: var(--front);
     --line: color-mix(in srgb, currentColor 20%, transparent);
-    font: 16px "DejaVu Sans Mono", "Noto Sans Mono", Menlo, Consolas, monospace; }
+    font: 16px "DejaVu Sans Mono", "Noto Sans Mono", Menlo, Consolas, monospace;
+    text-size-adjust: 100%; -webkit-text-size-adjust: 100%; }
 @media (prefers-color-scheme: light) { :host(:not([look=dark])) { ${LIGHT_CSS} } }
 :host([look=light]) { ${LIGHT_CSS} }
 :host([hidden]), [hidden] { display: none !important; }
@@ -50,13 +51,15 @@ a.cell:hover { filter: brightness(1.25); }
 [part=play], [part=speed] { font: inherit; color: inherit; background: none; padding: 2px 8px;
     border: 1px solid var(--line); border-radius: 6px; }
 [part=speed] option { background: var(--back); }
-[part=status] { padding: 6px 10px; font: 13px system-ui, sans-serif; color: var(--color-1);
-    unicode-bidi: isolate; overflow-wrap: anywhere; }
+[part=status] { padding: 6px 10px; font: 13px system-ui, sans-serif; unicode-bidi: isolate;
+    overflow-wrap: anywhere; }
+[part=status].wrong { color: var(--color-9); }
 `;
 
 const ROW_CLASSES = ['row top', 'row bottom', 'row double', 'row'];
 const LINE_HEIGHT = 1.25; // of the font's size
-const SMALLEST = 2, GREATEST_FONT = 64; // a cell's width and a font's size, in CSS pixels
+// Sizes of fonts, in CSS pixels. A screen that fits by no readable one is scrolled.
+const READABLE = 11, GREATEST = 64;
 const LONGEST_CELL = 256; // no hostile cell of a million marks is laid out
 
 /** A row's element, and what it was drawn from: the screen's row, and what is shown of that. */
@@ -95,18 +98,19 @@ export class Grid {
             + 'line-height:1;pointer-events:none;user-select:none;contain:strict;width:0;height:0';
     }
 
-    /** A font's size by which the screen fits its view. */
-    fit({ width, height }, view, mode) {
+    /** A font's size by which the screen fits its view, times `zoom`, but one that can be read. */
+    fit({ width, height }, view, mode, zoom) {
         if (!width || !view.clientWidth) return;
         const wanted = parseFloat(getComputedStyle(view).fontSize), ratio = this.#ratio();
         const dots = globalThis.devicePixelRatio || 1;
         const snapped = length => Math.floor(length * dots) / dots; // so that no seams show
-        let cell = mode === 'both' ? GREATEST_FONT * ratio : wanted * ratio;
+        const least = mode === 'both' ? READABLE : Math.min(READABLE, wanted);
+        let cell = mode === 'both' ? GREATEST * ratio : wanted * ratio;
         if (mode !== 'none') cell = Math.min(cell, view.clientWidth / width);
         if (mode === 'both') {
             cell = Math.min(cell, view.clientHeight / height / LINE_HEIGHT * ratio);
         }
-        this.#cell = Math.max(SMALLEST, snapped(cell));
+        this.#cell = Math.max(-snapped(-least * ratio), snapped(cell * zoom));
         const font = this.#cell / ratio;
         this.#row = Math.max(1, snapped(font * LINE_HEIGHT));
         const css = `width:${width * this.#cell}px;height:${height * this.#row}px;`

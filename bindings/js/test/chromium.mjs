@@ -113,6 +113,22 @@ class Page {
         }
     }
 
+    /** Presses a key that writes a character. */
+    async press(key) {
+        for (const type of ['keyDown', 'keyUp']) {
+            await this.send('Input.dispatchKeyEvent', { type, key, text: key });
+        }
+    }
+
+    /** Clicks what this expression finds. */
+    async clickOn(expression) {
+        const [x, y] = await this.evaluate(`(() => {
+            const { left, top, width, height } = (${expression}).getBoundingClientRect();
+            return [left + width / 2, top + height / 2];
+        })()`);
+        await this.click(x, y);
+    }
+
     async screenshot() {
         const { data } = await this.send('Page.captureScreenshot', { format: 'png' });
         return Buffer.from(data, 'base64');

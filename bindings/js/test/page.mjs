@@ -337,6 +337,145 @@ test('the screen fits the window, in dark and in light', { skip }, async () => {
     assert.equal(await page.evaluate(back), 'rgb(253, 253, 251)');
 });
 
+test("the page and its texts take the system's look whenever that changes", { skip }, async () => {
+    const kept = new Kept(), client = new Client();
+    const texts = Array.from({ length: 17 }, (_, n) => [1, [0, n < 16 ? n : null, 4, null, null]]);
+    const answer = repaint(1, ...texts.flatMap(pen => [pen, [2, 'x']]));
+    kept.put(answer);
+    client.feed(answer);
+    const page = await open(kept);
+    const judge = async (look, back) => {
+        await page.until(`document.documentElement.dataset.look === '${look}'`);
+        await drawn(page);
+        assert.equal(await page.evaluate(`getComputedStyle(${ELEMENT}).backgroundColor`), back);
+        await judgeCells(page, client.screen);
+    };
+    const dark = ['dark', 'rgb(16, 20, 27)'], light = ['light', 'rgb(253, 253, 251)'];
+    for (const look of [light, dark, light, dark]) {
+        await page.prefer({ 'prefers-color-scheme': look[0] });
+        await judge(...look);
+    }
+    await page.clickOn("document.getElementById('look')");
+    await judge(...light);
+    await page.prefer({ 'prefers-color-scheme': 'light' });
+    await judge(...light);
+    await page.prefer({ 'prefers-color-scheme': 'dark' });
+    await judge(...dark);
+    await page.evaluate(`${ELEMENT}.removeAttribute('look')`); // an element of a page of one's own
+    for (const look of [light, dark]) {
+        await page.prefer({ 'prefers-color-scheme': look[0] });
+        await judge(...look);
+    }
+});
+
+const FONT = `parseFloat(getComputedStyle(${ROOT}.querySelector('[part=grid]')).fontSize)`;
+
+test('keys and buttons zoom, and the session keeps how far', { skip }, async () => {
+    const kept = new Kept();
+    kept.put(repaint(1, [2, 'text']));
+    const page = await open(kept), button = name => `document.getElementById('${name}')`;
+    const isNear = async (times, first) => {
+        await drawn(page);
+        await drawn(page);
+        const font = await page.evaluate(FONT);
+        assert.ok(Math.abs(font / first - times) < 0.1 * times, `${font} is ${times} of ${first}`);
+        assert.equal(await page.evaluate(`${button('zoom')}.textContent`), `${100 * times} %`);
+    };
+    await drawn(page);
+    const first = await page.evaluate(FONT);
+    await isNear(1, first);
+    for (const [key, times] of [['+', 1.25], ['=', 1.5], ['-', 1.25], ['0', 1], ['-', 0.75]]) {
+        await page.press(key);
+        await isNear(times, first);
+    }
+    for (const [name, times] of [['zoom', 1], ['larger', 1.25], ['larger', 1.5], ['smaller', 1.25]]) {
+        await page.clickOn(button(name));
+        await isNear(times, first);
+    }
+    await page.send('Page.reload');
+    await page.until(`${ELEMENT}?.zoom === 1.25 && ${ELEMENT}.screen.width`);
+    await isNear(1.25, first);
+    for (let k = 0; k < 9; k++) await page.press('+');
+    await isNear(4, first);
+    assert.equal(await page.evaluate(`${button('larger')}.disabled`), true);
+    const isScrolled = `(() => {
+        const view = ${ROOT}.querySelector('[part=view]');
+        return view.scrollWidth > view.clientWidth;
+    })()`;
+    assert.ok(await page.evaluate(isScrolled));
+    assert.equal(await (await open(kept)).evaluate(`${ELEMENT}.zoom`), 1); // another session
+});
+
+test('on a phone wide rows are scrolled, by a font that can be read', { skip }, async () => {
+    const kept = new Kept(), width = 120, height = 30;
+    kept.put(sequence([2, 9, width, height, 0, 1, [[2, 'x'.repeat(width * height)]]]));
+    const page = await open(kept, '', 360, 640);
+    const sizes = async (...window) => {
+        await page.resize(...window);
+        await drawn(page);
+        await drawn(page);
+        return page.evaluate(`(() => {
+            const view = ${ROOT}.querySelector('[part=view]'), grid = view.firstChild;
+            view.scrollLeft = 0;
+            const box = view.getBoundingClientRect(), begin = grid.getBoundingClientRect().left;
+            view.scrollLeft = 1e6;
+            const end = grid.getBoundingClientRect().right;
+            return { font: ${FONT}, begins: begin >= box.left - 1, ends: end <= box.right + 1,
+                scrolls: view.scrollWidth > view.clientWidth,
+                page: document.documentElement.scrollWidth };
+        })()`);
+    };
+    for (const [size, dots] of [[[320, 568], 2], [[360, 640], 3], [[412, 915], 2.625]]) {
+        for (const zoom of [1, 0.5]) {
+            await page.evaluate(`${ELEMENT}.setAttribute('zoom', ${zoom})`);
+            const { font, ...rest } = await sizes(...size, dots);
+            assert.ok(font >= 11 && font < 13, `${font} on ${size}`);
+            assert.deepEqual(rest, { begins: true, ends: true, scrolls: true, page: size[0] });
+        }
+    }
+    await page.evaluate(`${ELEMENT}.setAttribute('fit', 'width')`);
+    assert.ok((await sizes(360, 640)).font >= 11);
+    await page.evaluate(`${ELEMENT}.style.fontSize = '8px'`); // the page asks for it
+    const { font, scrolls } = await sizes(370, 640);
+    assert.ok(font >= 8 && font < 10 && scrolls, font);
+    await page.evaluate(`${ELEMENT}.style.fontSize = ''`);
+    assert.equal((await sizes(1400, 900)).scrolls, false);
+});
+
+test('who has stopped is said in words', { skip }, async () => {
+    const says = async (page, state, message) => {
+        await page.until(`${ELEMENT}.state === '${state}' && ${ELEMENT}.message === ${
+            JSON.stringify(message)}`);
+        const shown = `${ROOT}.querySelector('[part=status]:not([hidden])').textContent`;
+        assert.equal(await page.evaluate(shown), message);
+    };
+    const kept = new Kept();
+    kept.put(repaint(1, [2, 'it stays']));
+    let page = await open(kept);
+    kept.end();
+    await says(page, 'ended', 'the program has ended');
+    await says(await open(kept), 'ended', 'the program has ended'); // to who comes later too
+    const other = new Kept();
+    other.put(repaint(1, [2, 'it stays']));
+    page = await open(other);
+    await page.evaluate(`globalThis.said = []; ${ELEMENT}.addEventListener('state',
+        () => said.push(${ELEMENT}.message))`);
+    servers.at(-1).close();
+    servers.at(-1).closeAllConnections();
+    await says(page, 'lost', "the server doesn't answer: it has stopped, or can't be reached");
+    assert.equal(await page.evaluate('said[0]'),
+        'the connection is lost: the server has stopped, or the way to it is cut');
+    assert.equal(await shownText(page), 'it stays|||');
+    page = await open(kept);
+    await page.evaluate(`${ELEMENT}.setAttribute('src', 'nowhere')`);
+    await says(page, 'lost', 'the server sends no screen, but the status 404');
+    await page.send('Network.enable');
+    await page.send('Network.emulateNetworkConditions',
+        { offline: true, latency: 0, downloadThroughput: -1, uploadThroughput: -1 });
+    await page.evaluate(`${ELEMENT}.setAttribute('src', 'stream')`);
+    await says(page, 'lost', 'this device has no connection');
+});
+
 test('blinks, and none where less motion is preferred', { skip }, async () => {
     const kept = new Kept();
     kept.put(repaint(1, [1, [1 << 5, null, null, null, null]], [2, 'slow'], [8, 1]));
@@ -402,6 +541,7 @@ test('a damaged stream: the screen stays, and the place is shown', { skip }, asy
     await page.until(numberIs(1));
     kept.put(Uint8Array.from([0x87, 2, 0]));
     await page.until(`${ELEMENT}.message.startsWith('answer 2: range at 2')`);
+    assert.match(await page.evaluate(`${ELEMENT}.message`), /what the program sends is damaged$/);
     assert.equal(await shownText(page), 'it stays|||');
 });
 

@@ -17,9 +17,14 @@ const clock = milliseconds => {
     return `${Math.floor(seconds / 60)}:${String(seconds % 60).padStart(2, '0')}`;
 };
 
+// What the faults of a stream mean, where they are no damage.
+const MEANINGS = {
+    truncated: 'what is sent ends too early', version: 'the program sends another form',
+    limit: 'it is more than this page takes',
+};
+const DAMAGED = 'what the program sends is damaged', ENDED = 'the program has ended';
+
 const describe = fault => `answer ${fault.answer}: ${fault.message} (${fault.why})`;
-const LIGHT = '(prefers-color-scheme: light)';
-const ENDED = 'the program has ended';
 
 /** Why no more comes from a source, in words that say who has stopped. */
 class Stopped extends Error {}
@@ -42,8 +47,8 @@ export class TikeburoScreen extends HTMLElement {
     #bar = make('div', 'controls', { hidden: true });
     #status = make('div', 'status', { role: 'status', hidden: true });
     #sizes = new ResizeObserver(() => this.#draw());
-    #system = matchMedia(LIGHT); // the look that the system prefers
-    #relook = () => this.#later();
+    #system = matchMedia('(prefers-color-scheme: light)');
+    #systemChanged = () => this.#later();
     #client = new Client();
     #player = null;
     #connection = null; // an AbortController, while there is a source
@@ -83,14 +88,14 @@ export class TikeburoScreen extends HTMLElement {
 
     connectedCallback() {
         this.#sizes.observe(this.#view);
-        this.#system.addEventListener('change', this.#relook);
+        this.#system.addEventListener('change', this.#systemChanged);
         document.fonts?.ready.then(() => this.#draw());
         this.#startSoon();
     }
 
     disconnectedCallback() {
         this.#sizes.disconnect();
-        this.#system.removeEventListener('change', this.#relook);
+        this.#system.removeEventListener('change', this.#systemChanged);
         this.#stop();
     }
 
@@ -134,7 +139,7 @@ export class TikeburoScreen extends HTMLElement {
             this.#say('connecting', problem);
             try {
                 if (await this.#follow(client, signal)) return;
-                problem = `${describe(client.fault)}: what the program sends is damaged`;
+                problem = `${describe(client.fault)}: ${MEANINGS[client.fault.kind] ?? DAMAGED}`;
             } catch (error) {
                 problem = error instanceof Stopped ? error.message
                     : `this page can't show it (${error.message})`;

@@ -88,7 +88,7 @@ export class Grid {
     #probe = document.createElement('span');
     #cell = 9.6; // CSS pixels
     #row = 20;
-    #drawn = '';
+    #css = ''; // of the grid
 
     constructor() {
         this.element.setAttribute('part', 'grid');
@@ -104,7 +104,7 @@ export class Grid {
         const wanted = parseFloat(getComputedStyle(view).fontSize), ratio = this.#ratio();
         const dots = globalThis.devicePixelRatio || 1;
         const snapped = length => Math.floor(length * dots) / dots; // so that no seams show
-        const least = mode === 'both' ? READABLE : Math.min(READABLE, wanted);
+        const least = mode === 'both' ? READABLE : Math.max(1, Math.min(READABLE, wanted));
         let cell = mode === 'both' ? GREATEST * ratio : wanted * ratio;
         if (mode !== 'none') cell = Math.min(cell, view.clientWidth / width);
         if (mode === 'both') {
@@ -115,8 +115,8 @@ export class Grid {
         this.#row = Math.max(1, snapped(font * LINE_HEIGHT));
         const css = `width:${width * this.#cell}px;height:${height * this.#row}px;`
             + `font-size:${font}px;line-height:${this.#row}px`;
-        if (css === this.#drawn) return;
-        this.#drawn = this.element.style.cssText = css;
+        if (css === this.#css) return;
+        this.#css = this.element.style.cssText = css;
         this.#forget();
     }
 
@@ -141,7 +141,8 @@ export class Grid {
         const colors = NAMES.map(name => style.getPropertyValue(`--${name}`)).join(';');
         if (colors === this.#colors) return;
         this.#colors = colors;
-        this.#palette = new Palette(Object.fromEntries(NAMES.map(name => [name, this.#parts(name)])));
+        const parts = NAMES.map(name => [name, this.#parts(name)]);
+        this.#palette = new Palette(Object.fromEntries(parts));
         this.#forget();
     }
 
@@ -235,8 +236,8 @@ export class Grid {
         const at = Math.min(x, screen.width - 1);
         const [column, cell] = [...screen.cells(y)].findLast(([begin]) => begin <= at);
         const columns = Math.min(cell.columns, screen.width - column);
-        const own = this.#palette.paint(color, 'cursor'), paint = own.css;
-        const text = this.#palette.textOn(own, this.#palette.paint(null, 'back'));
+        const ground = this.#palette.paint(color, 'cursor'), paint = ground.css;
+        const text = this.#palette.textOn(ground, this.#palette.paint(null, 'back'));
         const kind = shape === 0 ? 'block' : ['block', 'underline', 'bar'][shape - 1 >> 1];
         const look = {
             block: `background:${paint};color:${text}`,

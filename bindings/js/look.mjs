@@ -1,11 +1,11 @@
 // How cells look: CSS for their attributes, and rows as spans.
 import { styleOf } from './tikeburo.mjs';
 
-// The element's colours are CSS properties, `--front` and so on: of text, ground and cursor, and the
-// palette's first 16. Programs name them without knowing them, and one set of 16 in which each pair
-// can be read can't be: from black to white there are no three steps of 3 to 1. So the palettes are
-// chosen for text on the ground, and for usual text on dark blue and red, and `Palette` draws other
-// texts with more contrast.
+// The element's colours are CSS properties, `--front` and so on: of text, ground and cursor, and
+// the palette's first 16. Programs name these without knowing them, and combine any two. No 16
+// colours have a contrast of 3 to 1 between each two: from black to white it is 21 to 1, less than
+// three such steps. So the palettes are chosen for text on the ground, and in the dark look for
+// usual text on red, blue and magenta, and `Palette` draws other texts with more contrast.
 export const NAMES = ['front', 'back', 'cursor',
     ...Array.from({ length: 16 }, (_, n) => `color-${n}`)];
 export const COLORS = {

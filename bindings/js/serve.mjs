@@ -6,7 +6,8 @@
 // There is no surface here to ask. Whoever joins is sent a repaint of what the stream shows, and
 // then each answer as it comes; who is slow gets another repaint instead of much that is old.
 //
-// What can't be done, and a fault of the stream, is one line on the error output, and status 2.
+// What can't be done is one line on the error output, and status 2. A fault of the stream is a line
+// as soon as it shows, and the last whole screen stays.
 import { once } from 'node:events';
 import { createReadStream, createWriteStream, openSync, readFileSync } from 'node:fs';
 import { createServer } from 'node:http';
@@ -123,7 +124,8 @@ export class Kept {
     async *follow() {
         for (let next = -1; ;) {
             const repaint = next < this.#first && this.#paint();
-            const parts = repaint ? [repaint] : this.#answers.slice(Math.max(0, next - this.#first));
+            const news = this.#answers.slice(Math.max(0, next - this.#first));
+            const parts = repaint ? [repaint] : news;
             next = this.#first + this.#answers.length;
             if (parts.length) yield Buffer.concat(parts);
             else if (!this.isOver) await new Promise(done => this.#waiting.push(done));
@@ -134,10 +136,10 @@ export class Kept {
 }
 
 /** Puts a stream into `kept`, and its bytes into the recording. */
-async function readStream(input, kept, record) {
+async function readStream(input, kept, recorder) {
     const began = Date.now();
     for await (const chunk of input) {
-        record?.write(encodeEntry(Date.now() - began, chunk));
+        recorder?.write(encodeEntry(Date.now() - began, chunk));
         kept.put(chunk);
     }
     kept.end();
@@ -201,7 +203,6 @@ export async function serve({ port = PORT, source }) {
     return server;
 }
 
-/** The options, or nothing where they are others. */
 function optionsOf(args) {
     const options = {
         port: { type: 'string' }, record: { type: 'string' }, help: { type: 'boolean', short: 'h' },
@@ -213,12 +214,13 @@ function optionsOf(args) {
         throw new Refusal(USAGE);
     }
     const { values: { port = String(PORT), record, help }, positionals: [file, ...more] } = parsed;
+    if (help) return { help };
     if (!/^\d{1,5}$/.test(port) || port > MOST_PORT) {
         throw new Refusal(`--port ${port}: a port is a number from 0 to ${MOST_PORT}`);
     }
     if (more.length) throw new Refusal(USAGE);
     if (file && record) throw new Refusal('--record keeps the stream of the input, and no file');
-    return { port: Number(port), record, help, file };
+    return { port: Number(port), record, file };
 }
 
 /** Refuses a file of which nothing can be played. Of a damaged one the beginning is played. */
@@ -228,17 +230,18 @@ function checkRecording(file) {
     while (rest.length && !client.answers && !client.fault) client.feed(rest.shift().bytes);
     if (!client.answers) {
         const why = client.end() ?? fault;
-        throw new Refusal(`${file}: no recording${why ? ` (${why.message})` : ', since it is empty'}`);
+        const reason = why ? ` (${why.message})` : ', since it is empty';
+        throw new Refusal(`${file}: no recording${reason}`);
     }
     if (fault) say(`${file}: cut or damaged (${fault.message}), and played up to there`);
 }
 
-/** The stream that a live stream is recorded by. */
+/** What a live stream is recorded by. */
 function openRecord(file) {
     const fd = attempt(file, () => openSync(file, 'w'));
-    const record = createWriteStream(file, { fd });
-    record.on('error', error => say(`${file}: no longer written (${reasonOf(error)})`));
-    return record;
+    const recorder = createWriteStream(file, { fd });
+    recorder.on('error', error => say(`${file}: no longer written (${reasonOf(error)})`));
+    return recorder;
 }
 
 async function start({ port, record, file }) {
@@ -248,10 +251,10 @@ async function start({ port, record, file }) {
     const server = await serve({ port, source }).catch(error => {
         throw new Refusal(`port ${port}: ${reasonOf(error)}`);
     });
-    const kept = record && openRecord(record), mode = file ? '?controls' : '';
+    const recorder = record && openRecord(record), mode = file ? '?controls' : '';
     console.error(`http://127.0.0.1:${server.address().port}/${mode}`);
     if (file) return;
-    await readStream(process.stdin, source, kept).catch(error => {
+    await readStream(process.stdin, source, recorder).catch(error => {
         throw new Refusal(`input: ${reasonOf(error)}`);
     });
 }

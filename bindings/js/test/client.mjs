@@ -202,7 +202,7 @@ test('line feeds and scrolls move rows, and copy no cells', () => {
     assert.ok(many.steps < 4 * 100000, many.steps);
 });
 
-test('a row with its version shows what it did, and only rows that are written have another', () => {
+test('a row and its version show what they did, and others come by writing alone', () => {
     const random = randomFrom(300), shown = new Map(); // what each row and version showed
     let client = null, number = 0, same = 0, others = 0;
     for (let k = 0; k < 1000; k++) {
@@ -380,7 +380,8 @@ test("a viewer's tables cut the texts of a repaint as the repaint says", () => {
         assert.equal(client.fault, null);
         for (const [kind, text, runs] of judgeRepaint(client.screen)) {
             if (kind !== 2n) continue;
-            const pieces = Array.from(segmenter.segment(text), ({ segment }) => [...segment].length);
+            const segments = Array.from(segmenter.segment(text), ({ segment }) => segment);
+            const pieces = segments.map(segment => [...segment].length);
             const sizes = (runs ?? [[...text].length, 1]).flatMap((_, at, all) =>
                 (at % 3 ? [] : Array(Number(all[at])).fill(Number(all[at + 1]))));
             assert.deepEqual(pieces, sizes);
@@ -474,7 +475,7 @@ for (const [look, colors] of Object.entries(COLORS)) {
         assert.deepEqual(shownOf(...near), near);
         assert.deepEqual(shownOf(250, 251), [[188, 188, 188], [198, 198, 198]]);
         assert.deepEqual(shownOf(4, 4), [own['color-4'], own['color-4']]);
-        const [text] = shownOf(own.back, null); // given by its parts, it isn't known to be the ground
+        const [text] = shownOf(own.back, null); // it is not known that this is the ground's
         assert.ok(contrast(text, own.back) >= 3);
         const area = palette.lookOf({ ...DEFAULT_ATTRIBUTES, foreground: 6, background: 4 });
         assert.match(area.area, /^color:var\(--color-6\);background-color:var\(--color-4\);$/);

@@ -225,14 +225,16 @@ function refused(...words) {
     return [stdout, stderr, status];
 }
 
-test('serve.mjs refuses in one line what it can not do', async () => {
+test("serve.mjs refuses in one line what it can't do", async () => {
     const folder = mkdtempSync(join(tmpdir(), 'tikeburo-serve-'));
     const fileOf = (name, bytes) => {
         writeFileSync(join(folder, name), bytes);
         return join(folder, name);
     };
     const usage = 'usage: serve.mjs [--port N] [--record FILE] [RECORDING]\n';
-    for (const word of ['--help', '-h']) assert.deepEqual(refused(word), [usage, '', 0]);
+    for (const words of [['--help'], ['-h'], ['-h', '--port', 'abc', 'missing']]) {
+        assert.deepEqual(refused(...words), [usage, '', 0]);
+    }
     for (const words of [['--wrong'], ['--port'], ['one', 'two']]) {
         assert.deepEqual(refused(...words), ['', usage, 2]);
     }

@@ -8,7 +8,7 @@ import { createServer, request } from 'node:http';
 import { tmpdir } from 'node:os';
 import { join } from 'node:path';
 import { createInterface } from 'node:readline';
-import test from 'node:test';
+import test, { after } from 'node:test';
 import { fileURLToPath } from 'node:url';
 import { encodeEntry, Player, readRecording } from '../recording.mjs';
 import { encodeRepaint } from '../repaint.mjs';
@@ -166,11 +166,21 @@ test('viewers who join and wait at any time come to show the same screen', async
     }
 });
 
-/** `serve.mjs` with these words, from its address on. */
-async function start(...words) {
+const children = [];
+after(() => children.forEach(child => child.kill())); // also where a test failed
+
+/** `serve.mjs` with these words. */
+function run(...words) {
     const child = spawn(process.execPath, [pathOf('../serve.mjs'), '--port', '0', ...words]);
-    child.lines = createInterface({ input: child.stderr })[Symbol.asyncIterator]();
-    child.line = async () => (await child.lines.next()).value;
+    const lines = createInterface({ input: child.stderr })[Symbol.asyncIterator]();
+    child.line = async () => (await lines.next()).value;
+    children.push(child);
+    return child;
+}
+
+/** The same, once it has said its address. */
+async function start(...words) {
+    const child = run(...words);
     child.port = new URL(await child.line()).port;
     return child;
 }
@@ -219,7 +229,7 @@ test('serve.mjs says when its input ends within an answer', async () => {
 
 /** Output, error output and status of `serve.mjs` with these words, where it ends. */
 function refused(...words) {
-    const options = { input: '', encoding: 'utf8', timeout: 20000 };
+    const options = { input: '', encoding: 'utf8', timeout: 60000 };
     const { stdout, stderr, status } = spawnSync(process.execPath,
         [pathOf('../serve.mjs'), ...words], options);
     return [stdout, stderr, status];
@@ -271,9 +281,7 @@ test("serve.mjs refuses in one line what it can't do", async () => {
 test('a recording that is cut is played up to there, and may go away', async () => {
     const folder = mkdtempSync(join(tmpdir(), 'tikeburo-serve-')), file = join(folder, 'cut');
     writeFileSync(file, joined(encodeEntry(0, stream[0]), [0x82]));
-    const child = spawn(process.execPath, [pathOf('../serve.mjs'), '--port', '0', file]);
-    const lines = createInterface({ input: child.stderr })[Symbol.asyncIterator]();
-    const line = async () => (await lines.next()).value;
+    const child = run(file), { line } = child;
     assert.equal(await line(),
         `serve.mjs: ${file}: cut or damaged (truncated at 16), and played up to there`);
     const { port } = new URL(await line());

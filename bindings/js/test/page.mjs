@@ -214,14 +214,15 @@ test('the screen fits the window, in dark and in light', { skip }, async () => {
     const great = await size(1000, 640), small = await size(300, 400, 2);
     assert.ok(great[2] && small[2]);
     assert.ok(great[0] > 500 && small[0] < 300 && small[0] > 200, `${great} ${small}`);
-    const back = `getComputedStyle(${ELEMENT}).backgroundColor`;
+    const hasBack = color =>
+        page.until(`getComputedStyle(${ELEMENT}).backgroundColor === '${color}'`);
     await page.evaluate(`${ELEMENT}.removeAttribute('look')`);
     await page.prefer({ 'prefers-color-scheme': 'light' });
-    assert.equal(await page.evaluate(back), 'rgb(253, 253, 251)');
+    await hasBack('rgb(253, 253, 251)');
     await page.prefer({ 'prefers-color-scheme': 'dark' });
-    assert.equal(await page.evaluate(back), 'rgb(16, 20, 27)');
+    await hasBack('rgb(16, 20, 27)');
     await page.evaluate(`${ELEMENT}.setAttribute('look', 'light')`);
-    assert.equal(await page.evaluate(back), 'rgb(253, 253, 251)');
+    await hasBack('rgb(253, 253, 251)');
 });
 
 test("the page and its texts take the system's look whenever that changes", { skip }, async () => {

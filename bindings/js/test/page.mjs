@@ -214,15 +214,17 @@ test('the screen fits the window, in dark and in light', { skip }, async () => {
     const great = await size(1000, 640), small = await size(300, 400, 2);
     assert.ok(great[2] && small[2]);
     assert.ok(great[0] > 500 && small[0] < 300 && small[0] > 200, `${great} ${small}`);
-    const hasBack = color =>
-        page.until(`getComputedStyle(${ELEMENT}).backgroundColor === '${color}'`);
+    const hasBack = async (look, color) => {
+        await page.until(`document.documentElement.dataset.look === '${look}'`); // as the page has
+        await page.until(`getComputedStyle(${ELEMENT}).backgroundColor === '${color}'`);
+    };
     await page.evaluate(`${ELEMENT}.removeAttribute('look')`);
     await page.prefer({ 'prefers-color-scheme': 'light' });
-    await hasBack('rgb(253, 253, 251)');
+    await hasBack('light', 'rgb(253, 253, 251)');
     await page.prefer({ 'prefers-color-scheme': 'dark' });
-    await hasBack('rgb(16, 20, 27)');
+    await hasBack('dark', 'rgb(16, 20, 27)');
     await page.evaluate(`${ELEMENT}.setAttribute('look', 'light')`);
-    await hasBack('rgb(253, 253, 251)');
+    await hasBack('dark', 'rgb(253, 253, 251)');
 });
 
 test("the page and its texts take the system's look whenever that changes", { skip }, async () => {

@@ -1,50 +1,56 @@
 //! Changes of one attribute by their words.
 use crate::error::PlayError;
-use crate::words::color;
-use std::alloc::Global;
+use crate::turn::Turn;
+use crate::words::color_of;
 use std::rc::Rc;
 use termwiz_cell::cell::{AttributeChange, Blink, Intensity, Underline};
 use termwiz_cell::color::ColorAttribute;
 use termwiz_cell::hyperlink::Hyperlink;
 
-/// The change that a word names.
-pub fn attribute(alloc: Global, word: &str) -> Result<AttributeChange, PlayError> {
-    match word.split_once('=') {
-        Some((name, value)) => color_change(name, color(value)?),
-        None => style_change(alloc, word),
+impl Turn<'_> {
+    /// The change that a word names.
+    pub fn attribute_of(&mut self, word: &str) -> AttributeChange {
+        match word.split_once('=') {
+            Some((name, value)) => {
+                let color = self.found(color_of(value));
+                self.color_change(name, color.unwrap_or(ColorAttribute::Default))
+            }
+            None if word == "link" => AttributeChange::Hyperlink(self.link()),
+            None => self
+                .found(style_change(word))
+                .unwrap_or(AttributeChange::Italic(true)),
+        }
+    }
+
+    /// A link to `u`.
+    pub fn link(&mut self) -> Option<Rc<Hyperlink>> {
+        let uri = self.kept("u".to_owned(self.alloc))?;
+        let link = Rc::new(self.alloc, Hyperlink::new(self.alloc, uri));
+        self.kept(link)
+    }
+
+    fn color_change(&mut self, name: &str, color: ColorAttribute) -> AttributeChange {
+        match name {
+            "fg" => AttributeChange::Foreground(color),
+            "bg" => AttributeChange::Background(color),
+            _ => {
+                self.fail(PlayError::Bad);
+                AttributeChange::Foreground(color)
+            }
+        }
     }
 }
 
-/// A link to `u`.
-pub fn link(alloc: Global) -> Result<Rc<Hyperlink>, PlayError> {
-    let uri = "u".to_owned(alloc)?;
-    Ok(Rc::new(alloc, Hyperlink::new(alloc, uri))?)
-}
-
-fn color_change(name: &str, color: ColorAttribute) -> Result<AttributeChange, PlayError> {
-    match name {
-        "fg" => Ok(AttributeChange::Foreground(color)),
-        "bg" => Ok(AttributeChange::Background(color)),
-        _ => Err(PlayError::Bad),
-    }
-}
-
-fn style_change(alloc: Global, word: &str) -> Result<AttributeChange, PlayError> {
+fn style_change(word: &str) -> Option<AttributeChange> {
     match word {
-        "bold" => Ok(AttributeChange::Intensity(Intensity::Bold)),
-        "single" => Ok(AttributeChange::Underline(Underline::Single)),
-        "double" => Ok(AttributeChange::Underline(Underline::Double)),
-        "slow" => Ok(AttributeChange::Blink(Blink::Slow)),
-        "link" => link_change(alloc),
-        "italic" => Ok(AttributeChange::Italic(true)),
-        "reverse" => Ok(AttributeChange::Reverse(true)),
-        "strike" => Ok(AttributeChange::StrikeThrough(true)),
-        "invisible" => Ok(AttributeChange::Invisible(true)),
-        _ => Err(PlayError::Bad),
+        "bold" => Some(AttributeChange::Intensity(Intensity::Bold)),
+        "single" => Some(AttributeChange::Underline(Underline::Single)),
+        "double" => Some(AttributeChange::Underline(Underline::Double)),
+        "slow" => Some(AttributeChange::Blink(Blink::Slow)),
+        "italic" => Some(AttributeChange::Italic(true)),
+        "reverse" => Some(AttributeChange::Reverse(true)),
+        "strike" => Some(AttributeChange::StrikeThrough(true)),
+        "invisible" => Some(AttributeChange::Invisible(true)),
+        _ => None,
     }
-}
-
-fn link_change(alloc: Global) -> Result<AttributeChange, PlayError> {
-    let link = link(alloc)?;
-    Ok(AttributeChange::Hyperlink(Some(link)))
 }

@@ -3,7 +3,7 @@
 ghost use Rattle.std.specs.Prelude.{◌≤◌, length, IfSome};
 
 use crate::error::PlayError;
-use std::alloc::Global;
+use crate::turn::Turn;
 
 const LETTERS: [(char, char); 5] = [
     ('n', '\n'),
@@ -16,25 +16,51 @@ const LETTERS: [(char, char); 5] = [
 // The word of the empty text.
 const EMPTY: &str = "\\e";
 
-/// The text with its escapes replaced, and with a space for each character that stands for one.
-pub fn unescaped(alloc: Global, text: &str, space: char) -> Result<String, PlayError> {
-    let mut plain = String::new(alloc);
-    let mut rest = if text == EMPTY { "" } else { text };
-    while let Some((before, escape)) = rest.split_once('\\') {
-        let (c, after) = escaped_char(escape).ok_or(PlayError::Bad)?;
-        push_spaced(&mut plain, before, space)?;
-        plain.push(c)?;
-        rest = after;
+impl Turn<'_> {
+    /// The text with its escapes replaced, and with a space for each character that stands for one.
+    pub fn unescaped(&mut self, text: &str, space: char) -> String {
+        let mut plain = String::new(self.alloc);
+        let mut rest = if text == EMPTY { "" } else { text };
+        while let Some((before, escape)) = rest.split_once('\\') {
+            self.push_spaced(&mut plain, before, space);
+            let Some((c, after)) = escaped_char(escape) else {
+                self.fail(PlayError::Bad);
+                return plain;
+            };
+            let pushed = plain.push(c);
+            self.note(pushed);
+            rest = after;
+        }
+        self.push_spaced(&mut plain, rest, space);
+        plain
     }
-    push_spaced(&mut plain, rest, space)?;
-    Ok(plain)
-}
 
-fn push_spaced(plain: &mut String, text: &str, space: char) -> Result<(), PlayError> {
-    for c in text.chars() {
-        plain.push(if c == space { ' ' } else { c })?;
+    fn push_spaced(&mut self, plain: &mut String, text: &str, space: char) {
+        for c in text.chars() {
+            let pushed = plain.push(if c == space { ' ' } else { c });
+            self.note(pushed);
+        }
     }
-    Ok(())
+
+    /// Answers the word of a text: letters, digits, `=`, `;` and `,` stand for themselves.
+    pub fn push_escaped(&mut self, text: &str) {
+        if text.is_empty() {
+            self.push_str(EMPTY);
+        }
+        for c in text.chars() {
+            self.push_escaped_char(c);
+        }
+    }
+
+    fn push_escaped_char(&mut self, c: char) {
+        match c {
+            ' ' => self.push_str("\\s"),
+            '\\' => self.push_str("\\\\"),
+            '=' | ';' | ',' => self.push(c),
+            _ if c.is_alphanumeric() => self.push(c),
+            _ => write!(self, "\\u{{{:x}}}", c as u32),
+        }
+    }
 }
 
 // The character of the escape that a text begins with after its backslash, and what follows it.
@@ -56,27 +82,4 @@ fn numbered_char(text: &str) -> Option<(char, &str)>
     let (digits, rest) = text.strip_prefix("u{")?.split_once('}')?;
     let value = u32::from_str_radix(digits, 16).ok()?;
     Some((char::from_u32(value)?, rest))
-}
-
-/// The word of a text: letters, digits, `=`, `;` and `,` stand for themselves.
-pub fn escaped(alloc: Global, text: &str) -> Result<String, PlayError> {
-    if text.is_empty() {
-        return Ok(EMPTY.to_owned(alloc)?);
-    }
-    let mut word = String::new(alloc);
-    for c in text.chars() {
-        push_escaped(&mut word, c)?;
-    }
-    Ok(word)
-}
-
-fn push_escaped(word: &mut String, c: char) -> Result<(), PlayError> {
-    match c {
-        ' ' => word.push_str("\\s")?,
-        '\\' => word.push_str("\\\\")?,
-        '=' | ';' | ',' => word.push(c)?,
-        _ if c.is_alphanumeric() => word.push(c)?,
-        _ => write!(word, "\\u{{{:x}}}", c as u32)?,
-    }
-    Ok(())
 }

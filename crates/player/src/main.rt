@@ -3,7 +3,7 @@
 //! with `#` aren't played.
 //!
 //! `stage NAME` sets the stage on which the lines below it are played: `cells`, `lines`,
-//! `scripts`, `surfaces` or `streams`. The head of each stage's module lists its lines. A line
+//! `scripts`, `surfaces` or `streams`. `cases/LANGUAGE.md` lists the lines of each. A line
 //! `case TITLE` begins a case on any stage.
 //!
 //!     player             plays standard input, and then the recorded answers of `data/`
@@ -17,17 +17,15 @@ mod attributes;
 mod cells;
 mod error;
 mod escapes;
-mod hex;
 mod lines;
 mod pens;
-mod places;
 mod play;
 mod recorded;
 mod scripts;
-mod shapes;
 mod stages;
 mod streams;
 mod surfaces;
+mod turn;
 mod words;
 
 use error::PlayError;
@@ -50,7 +48,7 @@ fn main(rt: HostRuntime) -> Result<(), PlayError> {
 fn play_all(rt: &HostRuntime) -> Result<(), PlayError> {
     let alloc = rt.alloc();
     play_input(rt, &mut Stages::new(alloc, false))?;
-    play_recorded(rt, "links.txt", "> ", &mut cells::recorded::Player(alloc))?;
+    play_recorded(rt, "links.txt", "> ", &mut cells::recorded::Player)?;
     play_recorded(
         rt,
         "lines.txt",

@@ -1,8 +1,8 @@
 //! Attributes by their words.
-use crate::attributes::{attribute, link};
 use crate::error::PlayError;
-use crate::words::{color, named};
-use std::alloc::{AllocError, Global};
+use crate::turn::Turn;
+use crate::words::{color_of, named};
+use std::alloc::AllocError;
 use termwiz_cell::cell::{
     Blink, CellAttributes, Intensity, SemanticType, Underline, VerticalAlign,
 };
@@ -39,102 +39,110 @@ pub const VERTICAL_ALIGNS: [(&str, VerticalAlign); 2] = [
     ("sub", VerticalAlign::SubScript),
 ];
 
-/// The semantic type of this name.
-pub fn semantic_type(word: &str) -> Result<SemanticType, PlayError> {
-    named(&SEMANTIC_TYPES, word)
-}
-
-/// What the words make of blank attributes, with `between` between them.
-///
-/// - the name of an intensity, of a line below the text, of a way to blink, of a place or of a
-///   semantic type, `italic`, `reverse`, `strike`, `invisible`, `wrapped`, `overline`, `link`,
-///   `fg=C`, `bg=C` and `ul=C` or `line=C` set one.
-/// - `copy`, `sgr`, `clear` and `default` put in its place its copy, its copy without the link, the
-///   cleared one and the default one.
-/// - `+` and an attribute applies a copy of that change.
-pub fn pen(alloc: Global, words: &str, between: char) -> Result<CellAttributes, PlayError> {
-    let mut pen = CellAttributes::blank();
-    for word in words.split(between) {
-        put(alloc, &mut pen, word)?;
+impl Turn<'_> {
+    /// What the words make of blank attributes, with `between` between them.
+    ///
+    /// - the name of an intensity, of a line below the text, of a way to blink, of a place or of a
+    ///   semantic type, `italic`, `reverse`, `strike`, `invisible`, `wrapped`, `overline`, `link`,
+    ///   `fg=C`, `bg=C` and `ul=C` or `line=C` set one.
+    /// - `copy`, `sgr`, `clear` and `default` put in its place its copy, its copy without the link,
+    ///   the cleared one and the default one.
+    /// - `+` and an attribute applies a copy of that change.
+    pub fn pen_of(&mut self, words: &str, between: char) -> CellAttributes {
+        let mut pen = CellAttributes::blank();
+        for word in words.split(between) {
+            self.put(&mut pen, word);
+        }
+        pen
     }
-    Ok(pen)
-}
 
-fn put(alloc: Global, pen: &mut CellAttributes, word: &str) -> Result<(), PlayError> {
-    if let Some(change) = word.strip_prefix('+') {
-        return apply(alloc, pen, change);
+    /// Makes of a pen what a word says, unless there was a fault.
+    pub fn put(&mut self, pen: &mut CellAttributes, word: &str) {
+        if let Some(change) = word.strip_prefix('+') {
+            return self.apply(pen, change);
+        }
+        match word.split_once('=') {
+            Some((name, value)) => {
+                let color = self
+                    .found(color_of(value))
+                    .unwrap_or(ColorAttribute::Default);
+                self.set_color(pen, name, color);
+            }
+            None => self.replace(pen, word),
+        }
     }
-    match word.split_once('=') {
-        Some((name, value)) => set_color(alloc, pen, name, color(value)?),
-        None => replace(alloc, pen, word),
+
+    // Applies a copy of the change that a word names.
+    fn apply(&mut self, pen: &mut CellAttributes, word: &str) {
+        let change = self.attribute_of(word);
+        let copy = self.kept(change.clone());
+        if self.has_failed() {
+            return;
+        }
+        if let Some(change) = copy {
+            let applied = pen.apply_change(self.alloc, &change);
+            self.note(applied);
+        }
+    }
+
+    // Sets the colour of this name.
+    fn set_color(&mut self, pen: &mut CellAttributes, name: &str, color: ColorAttribute) {
+        let set = match name {
+            "fg" => pen.set_foreground(self.alloc, color).map(|_| ()),
+            "bg" => pen.set_background(self.alloc, color).map(|_| ()),
+            "ul" | "line" => pen.set_underline_color(self.alloc, color).map(|_| ()),
+            _ => return self.fail(PlayError::Bad),
+        };
+        self.note(set);
+    }
+
+    fn replace(&mut self, pen: &mut CellAttributes, word: &str) {
+        match word {
+            "copy" => self.put_made(pen.clone(), pen),
+            "sgr" => self.put_made(pen.clone_sgr_only(self.alloc), pen),
+            "default" => *pen = CellAttributes::default(),
+            "clear" => pen.clear(),
+            "link" => self.set_link(pen),
+            _ if set_style(pen, word) || set_flag(pen, word) => {}
+            _ => self.fail(PlayError::Bad),
+        }
+    }
+
+    fn put_made(&mut self, made: Result<CellAttributes, AllocError>, pen: &mut CellAttributes) {
+        if let Some(made) = self.kept(made) {
+            *pen = made;
+        }
+    }
+
+    // Sets a link to `u`.
+    fn set_link(&mut self, pen: &mut CellAttributes) {
+        if let Some(link) = self.link() {
+            let set = pen.set_hyperlink(self.alloc, Some(link)).map(|_| ());
+            self.note(set);
+        }
     }
 }
 
-fn apply(alloc: Global, pen: &mut CellAttributes, word: &str) -> Result<(), PlayError> {
-    let change = attribute(alloc, word)?.clone()?;
-    pen.apply_change(alloc, &change)?;
-    Ok(())
-}
-
-fn set_color(
-    alloc: Global,
-    pen: &mut CellAttributes,
-    name: &str,
-    color: ColorAttribute,
-) -> Result<(), PlayError> {
-    match name {
-        "fg" => pen.set_foreground(alloc, color)?,
-        "bg" => pen.set_background(alloc, color)?,
-        "ul" | "line" => pen.set_underline_color(alloc, color)?,
-        _ => return Err(PlayError::Bad),
-    };
-    Ok(())
-}
-
-fn replace(alloc: Global, pen: &mut CellAttributes, word: &str) -> Result<(), PlayError> {
-    match word {
-        "copy" => put_made(pen.clone(), pen),
-        "sgr" => put_made(pen.clone_sgr_only(alloc), pen),
-        "default" => put_made(Ok(CellAttributes::default()), pen),
-        "clear" => Ok(pen.clear()),
-        "link" => set_link(alloc, pen),
-        _ => set_style(pen, word),
-    }
-}
-
-fn put_made(
-    made: Result<CellAttributes, AllocError>,
-    pen: &mut CellAttributes,
-) -> Result<(), PlayError> {
-    *pen = made?;
-    Ok(())
-}
-
-fn set_link(alloc: Global, pen: &mut CellAttributes) -> Result<(), PlayError> {
-    let link = link(alloc)?;
-    pen.set_hyperlink(alloc, Some(link))?;
-    Ok(())
-}
-
-// What the word names in the tables, or a flag.
-fn set_style(pen: &mut CellAttributes, word: &str) -> Result<(), PlayError> {
-    if let Ok(intensity) = named(&INTENSITIES, word) {
+// Sets what the word names in the tables, and returns whether it names something.
+fn set_style(pen: &mut CellAttributes, word: &str) -> bool {
+    if let Some(intensity) = named(&INTENSITIES, word) {
         pen.set_intensity(intensity);
-    } else if let Ok(underline) = named(&UNDERLINES, word) {
+    } else if let Some(underline) = named(&UNDERLINES, word) {
         pen.set_underline(underline);
-    } else if let Ok(blink) = named(&BLINKS, word) {
+    } else if let Some(blink) = named(&BLINKS, word) {
         pen.set_blink(blink);
-    } else if let Ok(align) = named(&VERTICAL_ALIGNS, word) {
+    } else if let Some(align) = named(&VERTICAL_ALIGNS, word) {
         pen.set_vertical_align(align);
-    } else if let Ok(semantic_type) = semantic_type(word) {
+    } else if let Some(semantic_type) = named(&SEMANTIC_TYPES, word) {
         pen.set_semantic_type(semantic_type);
     } else {
-        return set_flag(pen, word);
+        return false;
     }
-    Ok(())
+    true
 }
 
-fn set_flag(pen: &mut CellAttributes, word: &str) -> Result<(), PlayError> {
+// Sets the flag of this name, and returns whether there is one.
+fn set_flag(pen: &mut CellAttributes, word: &str) -> bool {
     match word {
         "italic" => pen.set_italic(true),
         "reverse" => pen.set_reverse(true),
@@ -142,7 +150,7 @@ fn set_flag(pen: &mut CellAttributes, word: &str) -> Result<(), PlayError> {
         "invisible" => pen.set_invisible(true),
         "wrapped" => pen.set_wrapped(true),
         "overline" => pen.set_overline(true),
-        _ => return Err(PlayError::Bad),
+        _ => return false,
     };
-    Ok(())
+    true
 }

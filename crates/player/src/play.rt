@@ -1,17 +1,13 @@
 //! Transcripts: lines that are played one by one, and printed again with their answers.
 use crate::error::PlayError;
+use crate::turn::Turn;
 use std::alloc::Global;
 use std::io::{self, Write};
 
 /// What answers the lines of cases.
 pub trait Play {
-    /// Plays a line, and returns the lines of its answer.
-    fn line(&mut self, line: &str) -> Result<String, PlayError>;
-
-    /// Returns the lines of the answer to a whole recorded case, if it has one.
-    fn end(&mut self) -> Result<Option<String>, PlayError> {
-        Ok(None)
-    }
+    /// Plays a line, and adds the lines of its answer.
+    fn line(&mut self, turn: &mut Turn<'_>);
 }
 
 /// Plays the transcript on standard input, and prints each of its lines again with its answer
@@ -95,15 +91,11 @@ impl<'a> Above<'a> {
 
     fn answered<P: Play>(&self, line: &str, play: &mut P) -> Result<String, PlayError> {
         let line = line.strip_prefix("? ").unwrap_or(line);
-        match play.line(line) {
-            Err(PlayError::Memory) => self.answered_again(line, play),
-            answered => answered,
+        match answer(self.alloc, line, play) {
+            Err(PlayError::Memory) => self.ask(play)?,
+            answered => return answered,
         }
-    }
-
-    fn answered_again<P: Play>(&self, line: &str, play: &mut P) -> Result<String, PlayError> {
-        self.ask(play)?;
-        match play.line(line) {
+        match answer(self.alloc, line, play) {
             Err(PlayError::Memory) => Ok("refused".to_owned(self.alloc)?),
             answered => answered,
         }
@@ -114,13 +106,20 @@ impl<'a> Above<'a> {
         let Some(question) = self.question else {
             return Ok(());
         };
-        let answer = play.line(question)?;
+        let answer = answer(self.alloc, question, play)?;
         if answer.as_str() == self.answer.as_str() {
             Ok(())
         } else {
             Err(PlayError::Differs)
         }
     }
+}
+
+/// Plays a line, and returns the lines of its answer.
+pub fn answer<P: Play>(alloc: Global, line: &str, play: &mut P) -> Result<String, PlayError> {
+    let mut turn = Turn::new(alloc, line)?;
+    play.line(&mut turn);
+    turn.into_answer()
 }
 
 /// Adds each line behind a mark.

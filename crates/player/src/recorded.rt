@@ -1,7 +1,7 @@
 //! Cases with recorded answers. A line that begins with `<` is one of an answer, and each other
 //! line of a case asks. A case agrees where its lines, played again, give the recorded answers.
 use crate::error::PlayError;
-use crate::play::{Play, push_lines};
+use crate::play::{Play, answer, push_lines};
 use std::alloc::Global;
 use std::io::Write;
 use std::{fs, mem};
@@ -140,12 +140,9 @@ fn replayed<P: Play>(alloc: Global, case: &str, play: &mut P) -> Result<String, 
     for line in case.lines() {
         if !line.starts_with('<') {
             push_lines(&mut lines, "", line)?;
-            let answer = play.line(line)?;
+            let answer = answer(alloc, line, play)?;
             push_lines(&mut lines, "< ", answer.as_str())?;
         }
-    }
-    if let Some(answer) = play.end()? {
-        push_lines(&mut lines, "< ", answer.as_str())?;
     }
     Ok(lines)
 }

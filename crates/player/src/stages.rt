@@ -1,6 +1,7 @@
 //! The stages, of which one is set at a time.
 use crate::error::PlayError;
 use crate::play::Play;
+use crate::turn::Turn;
 use crate::{cells, lines, scripts, streams, surfaces};
 use std::alloc::Global;
 
@@ -32,32 +33,31 @@ impl Stages {
         }
     }
 
-    fn set(&mut self, name: &str) -> Result<String, PlayError> {
+    fn set(&mut self, turn: &mut Turn<'_>) {
         let alloc = self.alloc;
-        self.stage = match name {
-            "cells" => Stage::Cells(cells::stage::Stage::new(alloc)),
+        self.stage = match turn.word() {
+            "cells" => Stage::Cells(cells::stage::Stage::new()),
             "lines" => Stage::Lines(lines::stage::Stage::new(alloc, self.compresses)),
             "scripts" => Stage::Scripts(scripts::stage::Stage::new(alloc)),
             "streams" => Stage::Streams(streams::stage::Stage::new(alloc)),
             "surfaces" => Stage::Surfaces(surfaces::stage::Stage::new(alloc)),
-            _ => return Err(PlayError::Bad),
+            _ => return turn.fail(PlayError::Bad),
         };
-        Ok(String::new(alloc))
     }
 }
 
 impl Play for Stages {
-    fn line(&mut self, line: &str) -> Result<String, PlayError> {
-        if let Some(name) = line.strip_prefix("stage ") {
-            return self.set(name);
+    fn line(&mut self, turn: &mut Turn<'_>) {
+        if turn.takes("stage ") {
+            return self.set(turn);
         }
         match &mut self.stage {
-            Stage::None => Err(PlayError::Bad),
-            Stage::Cells(stage) => stage.line(line),
-            Stage::Lines(stage) => stage.line(line),
-            Stage::Scripts(stage) => stage.line(line),
-            Stage::Streams(stage) => stage.line(line),
-            Stage::Surfaces(stage) => stage.line(line),
+            Stage::None => turn.fail(PlayError::Bad),
+            Stage::Cells(stage) => stage.line(turn),
+            Stage::Lines(stage) => stage.line(turn),
+            Stage::Scripts(stage) => stage.line(turn),
+            Stage::Streams(stage) => stage.line(turn),
+            Stage::Surfaces(stage) => stage.line(turn),
         }
     }
 }

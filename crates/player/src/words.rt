@@ -1,47 +1,33 @@
-//! Numbers, truths, colours and named values by their words, and the parts of a line.
-use crate::error::PlayError;
-use std::alloc::Global;
+//! Values by their words.
+use crate::turn::Turn;
+use termwiz_cell::change::{CursorShape, LineAttribute, Position};
 use termwiz_cell::color::{AnsiColor, ColorAttribute, RgbColor};
 
-/// The first word, and what follows it.
-pub fn first(words: &str) -> Result<(&str, &str), PlayError> {
-    words.split_once(' ').ok_or(PlayError::Bad)
-}
+const SHAPES: [(&str, CursorShape); 7] = [
+    ("default", CursorShape::Default),
+    ("blinking-block", CursorShape::BlinkingBlock),
+    ("blinking-underline", CursorShape::BlinkingUnderline),
+    ("blinking-bar", CursorShape::BlinkingBar),
+    ("steady-block", CursorShape::SteadyBlock),
+    ("steady-underline", CursorShape::SteadyUnderline),
+    ("steady-bar", CursorShape::SteadyBar),
+];
 
-/// The two sides of a question that compares.
-pub fn sides(words: &str) -> Result<(&str, &str), PlayError> {
-    words.split_once(" | ").ok_or(PlayError::Bad)
-}
+const LINE_ATTRIBUTES: [(&str, LineAttribute); 4] = [
+    ("top", LineAttribute::DoubleHeightTopHalfLine),
+    ("bottom", LineAttribute::DoubleHeightBottomHalfLine),
+    ("double", LineAttribute::DoubleWidthLine),
+    ("single", LineAttribute::SingleWidthLine),
+];
 
 /// The value of a word in a table of names.
-pub fn named<T: Copy>(names: &[(&str, T)], word: &str) -> Result<T, PlayError> {
+pub fn named<T: Copy>(names: &[(&str, T)], word: &str) -> Option<T> {
     for (name, value) in names {
         if *name == word {
-            return Ok(*value);
+            return Some(*value);
         }
     }
-    Err(PlayError::Bad)
-}
-
-/// The number that a word writes, or `max` for the greatest.
-pub fn given(word: &str) -> Result<usize, PlayError> {
-    if word == "max" {
-        return Ok(usize::MAX);
-    }
-    word.parse().ok().ok_or(PlayError::Bad)
-}
-
-/// Two numbers.
-pub fn pair(x: &str, y: &str) -> Result<(usize, usize), PlayError> {
-    Ok((given(x)?, given(y)?))
-}
-
-/// `true` or `false`, or `1` or `0`.
-pub fn truth(word: &str) -> Result<bool, PlayError> {
-    named(
-        &[("true", true), ("false", false), ("1", true), ("0", false)],
-        word,
-    )
+    None
 }
 
 /// The first name of a value in a table of names, or no word.
@@ -56,57 +42,97 @@ pub fn name_of<T: PartialEq>(names: &[(&'static str, T)], value: &T) -> &'static
 
 /// A colour: `default`, an index of the palette, `maroon`, `true`, which is black or else the
 /// palette's 7, or `#RRGGBB`, with `+` and an index behind it where it falls back to the palette.
-pub fn color(word: &str) -> Result<ColorAttribute, PlayError> {
+pub fn color_of(word: &str) -> Option<ColorAttribute> {
     match word {
-        "default" => Ok(ColorAttribute::Default),
-        "maroon" => Ok(AnsiColor::Maroon.into()),
-        "true" => Ok(ColorAttribute::TrueColorWithPaletteFallback(RgbColor::default(), 7)),
+        "default" => Some(ColorAttribute::Default),
+        "maroon" => Some(AnsiColor::Maroon.into()),
+        "true" => Some(ColorAttribute::TrueColorWithPaletteFallback(RgbColor::default(), 7)),
         _ if word.starts_with('#') => true_color(word),
-        _ => palette_color(word),
+        _ => Some(ColorAttribute::PaletteIndex(word.parse().ok()?)),
     }
 }
 
-fn true_color(word: &str) -> Result<ColorAttribute, PlayError> {
-    match word.split_once('+') {
-        Some((color, index)) => fallback_color(rgb_color(color)?, index),
-        None => Ok(ColorAttribute::TrueColorWithDefaultFallback(rgb_color(word)?)),
+fn true_color(word: &str) -> Option<ColorAttribute> {
+    let Some((word, index)) = word.split_once('+') else {
+        let color = RgbColor::from_rgb_str(word)?;
+        return Some(ColorAttribute::TrueColorWithDefaultFallback(color));
+    };
+    let (color, index) = (RgbColor::from_rgb_str(word)?, index.parse().ok()?);
+    Some(ColorAttribute::TrueColorWithPaletteFallback(color, index))
+}
+
+fn byte_of(digits: &[u8]) -> Option<u8> {
+    let digits = str::from_utf8(digits).ok()?;
+    u8::from_str_radix(digits, 16).ok()
+}
+
+impl Turn<'_> {
+    /// The colour of the next word.
+    pub fn color(&mut self) -> ColorAttribute {
+        let color = color_of(self.word());
+        self.found(color).unwrap_or(ColorAttribute::Default)
     }
-}
 
-fn rgb_color(word: &str) -> Result<RgbColor, PlayError> {
-    RgbColor::from_rgb_str(word).ok_or(PlayError::Bad)
-}
-
-fn fallback_color(color: RgbColor, index: &str) -> Result<ColorAttribute, PlayError> {
-    let index = index.parse().ok().ok_or(PlayError::Bad)?;
-    Ok(ColorAttribute::TrueColorWithPaletteFallback(color, index))
-}
-
-fn palette_color(word: &str) -> Result<ColorAttribute, PlayError> {
-    let index = word.parse().ok().ok_or(PlayError::Bad)?;
-    Ok(ColorAttribute::PaletteIndex(index))
-}
-
-/// The word of a colour.
-pub fn color_word(alloc: Global, color: ColorAttribute) -> Result<String, PlayError> {
-    match color {
-        ColorAttribute::Default => Ok("default".to_owned(alloc)?),
-        ColorAttribute::PaletteIndex(index) => Ok(format!(in alloc; "{index}")?),
-        ColorAttribute::TrueColorWithDefaultFallback(color) => Ok(color.to_rgb_string(alloc)?),
-        ColorAttribute::TrueColorWithPaletteFallback(color, index) => {
-            fallback_word(alloc, color, index)
+    /// Answers the word of a colour.
+    pub fn push_color(&mut self, color: ColorAttribute) {
+        match color {
+            ColorAttribute::Default => self.push_str("default"),
+            ColorAttribute::PaletteIndex(index) => write!(self, "{index}"),
+            ColorAttribute::TrueColorWithDefaultFallback(color) => {
+                self.push_made(color.to_rgb_string(self.alloc));
+            }
+            ColorAttribute::TrueColorWithPaletteFallback(color, index) => {
+                self.push_made(color.to_rgb_string(self.alloc));
+                write!(self, "+{index}");
+            }
         }
     }
-}
 
-fn fallback_word(alloc: Global, color: RgbColor, index: u8) -> Result<String, PlayError> {
-    let word = color.to_rgb_string(alloc)?;
-    Ok(format!(in alloc; "{word}+{index}")?)
-}
+    /// The distance that a word writes, or `max` and `min` for the greatest and the least.
+    pub fn distance_of(&mut self, word: &str) -> isize {
+        let distance = match word {
+            "max" => Some(isize::MAX),
+            "min" => Some(isize::MIN),
+            _ => word.parse().ok(),
+        };
+        self.found(distance).unwrap_or(0)
+    }
 
-/// Adds a word with `|` behind it.
-pub fn push_barred(words: &mut String, word: &str) -> Result<(), PlayError> {
-    words.push_str(word)?;
-    words.push('|')?;
-    Ok(())
+    /// The place of the next word: `=` and a number from the start, `$` and one from the end, or
+    /// `~` and a distance.
+    pub fn position(&mut self) -> Position {
+        let word = self.word();
+        if let Some(number) = word.strip_prefix('=') {
+            return Position::Absolute(self.number_of(number));
+        }
+        if let Some(number) = word.strip_prefix('$') {
+            return Position::EndRelative(self.number_of(number));
+        }
+        let distance = self.found(word.strip_prefix('~')).unwrap_or("");
+        Position::Relative(self.distance_of(distance))
+    }
+
+    /// The shape that the next word names.
+    pub fn shape(&mut self) -> CursorShape {
+        self.named(&SHAPES, CursorShape::Default)
+    }
+
+    /// The size of a line that the next word names.
+    pub fn line_attribute(&mut self) -> LineAttribute {
+        self.named(&LINE_ATTRIBUTES, LineAttribute::SingleWidthLine)
+    }
+
+    /// The bytes that a word writes, where `-` writes none.
+    pub fn bytes_of(&mut self, word: &str) -> Vec<u8> {
+        let mut bytes = Vec::new(self.alloc);
+        if word == "-" {
+            return bytes;
+        }
+        for digits in word.as_bytes().chunks(2) {
+            let byte = self.found(byte_of(digits)).unwrap_or(0);
+            let pushed = bytes.push(byte);
+            self.note(pushed);
+        }
+        bytes
+    }
 }

@@ -1,98 +1,98 @@
 //! Questions about cells.
-use crate::cells::texts::quoted;
 use crate::error::PlayError;
-use crate::pens::pen;
-use crate::words::{first, given, push_barred, sides};
-use std::alloc::Global;
+use crate::turn::Turn;
 use termwiz_cell::cell::{Cell, CellAttributes, Underline};
 use termwiz_cell::emoji::{OneColumn, UnicodeWidths};
 use termwiz_line::cellcluster::CellCluster;
 use termwiz_line::line::line::Line;
 
-pub fn answer(alloc: Global, words: &str, out: &mut String) -> Result<(), PlayError> {
-    let (what, words) = first(words)?;
-    match what {
+pub fn answer(turn: &mut Turn<'_>) {
+    match turn.word() {
         "show" => {
-            let cell = cell(alloc, words)?;
+            let cell = cell(turn);
             let (text, width, blank) = (cell.str(), cell.width(), cell.is_blank());
-            write!(out, "\"{text}\", columns {width}, blank {blank}")?;
+            write!(turn, "\"{text}\", columns {width}, blank {blank}");
         }
         "form" => {
-            let form = cell(alloc, words)?.presentation(&UnicodeWidths);
-            write!(out, "{form:?}")?;
+            let form = cell(turn).presentation(&UnicodeWidths);
+            write!(turn, "{form:?}");
         }
         "same" => {
-            let (one, other) = sides(words)?;
-            let (one, other) = (cell(alloc, one)?, cell(alloc, other)?);
-            write!(out, "{}", one == other)?;
+            let (one, other) = turn.sides();
+            turn.read(one);
+            let one = cell(turn);
+            turn.read(other);
+            let same = one == cell(turn);
+            write!(turn, "{same}");
         }
-        "debug" => debug(alloc, words, out)?,
-        "copied" => copied(alloc, words, out)?,
-        _ => return Err(PlayError::Bad),
+        "debug" => debug(turn, false),
+        "copied" => debug(turn, true),
+        _ => turn.fail(PlayError::Bad),
     }
-    Ok(())
 }
 
-// What `{:?}` shows of a cell with attributes.
-fn debug(alloc: Global, words: &str, out: &mut String) -> Result<(), PlayError> {
-    let (word, pen_words) = sides(words)?;
-    let attrs = pen(alloc, pen_words, ' ')?;
-    let cell = Cell::new_grapheme(alloc, &UnicodeWidths, quoted(word), attrs, None)?;
-    Ok(write!(out, "{cell:?}")?)
-}
-
-// What `{:?}` shows of a copy of a cell with attributes, and whether both are equal.
-fn copied(alloc: Global, words: &str, out: &mut String) -> Result<(), PlayError> {
-    let (word, pen_words) = sides(words)?;
-    let attrs = pen(alloc, pen_words, ' ')?;
-    let cell = Cell::new_grapheme_with_width(alloc, quoted(word), 1, attrs)?;
-    let copy = cell.clone()?;
-    Ok(write!(out, "{copy:?}, same {}", copy == cell)?)
+// What `{:?}` shows of a cell with attributes; or of the copy of such a cell of one column, and
+// whether both are equal.
+fn debug(turn: &mut Turn<'_>, copies: bool) {
+    let (alloc, (word, words)) = (turn.alloc, turn.sides());
+    let attrs = turn.pen_of(words, ' ');
+    turn.read(word);
+    let text = turn.quoted();
+    if !copies {
+        let made = Cell::new_grapheme(alloc, &UnicodeWidths, text, attrs, None);
+        if let Some(cell) = turn.kept(made) {
+            write!(turn, "{cell:?}");
+        }
+    } else if let Some(cell) = turn.kept(Cell::new_grapheme_with_width(alloc, text, 1, attrs)) {
+        if let Some(copy) = turn.kept(cell.clone()) {
+            write!(turn, "{copy:?}, same {}", copy == cell);
+        }
+    }
 }
 
 /// A blank cell whose attributes are set where they stand, and whether it is a blank one again
 /// where they are replaced by blank ones.
-pub fn lent(out: &mut String) -> Result<(), PlayError> {
+pub fn lent(turn: &mut Turn<'_>) {
     let mut cell = Cell::blank();
     cell.attrs_mut()
         .set_underline(Underline::Single)
         .set_italic(true);
-    write!(out, "{cell:?}, ")?;
+    write!(turn, "{cell:?}, ");
     *cell.attrs_mut() = CellAttributes::blank();
     let same = cell == Cell::blank_with_attrs(CellAttributes::blank());
-    Ok(write!(out, "replaced {same}")?)
+    write!(turn, "replaced {same}");
 }
 
 /// The texts of copies of the clusters that the cells of a text make.
-pub fn clusters(alloc: Global, text: &str, out: &mut String) -> Result<(), PlayError> {
-    let line = Line::from_plain(alloc, text, &UnicodeWidths)?;
-    for cluster in CellCluster::make_cluster(alloc, &UnicodeWidths, line.visible_cells())? {
-        push_copied(&cluster, out)?;
+pub fn clusters(turn: &mut Turn<'_>) {
+    let (alloc, text) = (turn.alloc, turn.quoted());
+    let Some(line) = turn.kept(Line::from_plain(alloc, text, &UnicodeWidths)) else {
+        return;
+    };
+    let made = CellCluster::make_cluster(alloc, &UnicodeWidths, line.visible_cells());
+    for cluster in &turn.kept(made).unwrap_or(Vec::new(alloc)) {
+        if let Some(copy) = turn.kept(cluster.clone()) {
+            turn.push_barred(copy.text.as_str());
+        }
     }
-    Ok(())
-}
-
-fn push_copied(cluster: &CellCluster, out: &mut String) -> Result<(), PlayError> {
-    push_barred(out, cluster.clone()?.text.as_str())
 }
 
 // The cell of some words, or its copy.
-fn cell(alloc: Global, words: &str) -> Result<Cell, PlayError> {
-    let copies = words.starts_with("copy ");
-    let words = words.strip_prefix("copy ").unwrap_or(words);
-    let (how, word) = words.split_once(' ').unwrap_or((words, ""));
-    let text = quoted(word);
+fn cell(turn: &mut Turn<'_>) -> Cell {
+    let (alloc, copies) = (turn.alloc, turn.takes("copy "));
+    let (how, text) = (turn.word(), turn.quoted());
     let (widths, c) = (&UnicodeWidths, text.chars().next().unwrap_or(' '));
-    let cell = match how {
-        "blank" => Cell::blank(),
-        "default" => Cell::default(),
-        "grapheme" => Cell::new_grapheme(alloc, widths, text, CellAttributes::blank(), None)?,
-        "char" => Cell::new(alloc, widths, c, CellAttributes::blank())?,
-        "one" => Cell::new(alloc, &OneColumn, c, CellAttributes::blank())?,
+    let made = match how {
+        "blank" => Ok(Cell::blank()),
+        "default" => Ok(Cell::default()),
+        "grapheme" => Cell::new_grapheme(alloc, widths, text, CellAttributes::blank(), None),
+        "char" => Cell::new(alloc, widths, c, CellAttributes::blank()),
+        "one" => Cell::new(alloc, &OneColumn, c, CellAttributes::blank()),
         _ => {
-            let width = given(how)?.min(2);
-            Cell::new_grapheme_with_width(alloc, text, width, CellAttributes::blank())?
+            let width = turn.number_of(how).min(2);
+            Cell::new_grapheme_with_width(alloc, text, width, CellAttributes::blank())
         }
     };
-    if copies { Ok(cell.clone()?) } else { Ok(cell) }
+    let cell = turn.kept(made).unwrap_or(Cell::blank());
+    turn.copied(cell, copies)
 }

@@ -1,58 +1,62 @@
 //! Questions about changes.
-use crate::attributes::attribute;
-use crate::cells::texts::quoted;
 use crate::error::PlayError;
-use crate::shapes::{line_attribute, shape};
-use crate::surfaces;
-use crate::words::{first, sides};
-use std::alloc::Global;
+use crate::turn::Turn;
 use termwiz_cell::change::Change;
 
-pub fn answer(alloc: Global, words: &str, out: &mut String) -> Result<(), PlayError> {
-    let (what, words) = first(words)?;
-    match what {
+pub fn answer(turn: &mut Turn<'_>) {
+    match turn.word() {
         "show" => {
-            let change = change(alloc, words)?;
+            let change = change(turn);
             if change.is_text() {
-                write!(out, "{:?}", Some(change.text()))?;
+                write!(turn, "{:?}", Some(change.text()));
             } else {
-                out.push_str("None")?;
+                turn.push_str("None");
             }
         }
         "same" => {
-            let (one, other) = sides(words)?;
-            let (one, other) = (change(alloc, one)?, change(alloc, other)?);
-            write!(out, "{}", one == other)?;
+            let (one, other) = turn.sides();
+            turn.read(one);
+            let one = change(turn);
+            turn.read(other);
+            let same = one == change(turn);
+            write!(turn, "{same}");
         }
-        "blinks" => write!(out, "{}", shape(words)?.is_blinking())?,
-        _ => return Err(PlayError::Bad),
+        "blinks" => {
+            let blinks = turn.shape().is_blinking();
+            write!(turn, "{blinks}");
+        }
+        _ => turn.fail(PlayError::Bad),
     }
-    Ok(())
 }
 
 // The change of some words, or its copy. Those that aren't named here are words of surfaces.
-fn change(alloc: Global, words: &str) -> Result<Change, PlayError> {
-    let copies = words.starts_with("copy ");
-    let words = words.strip_prefix("copy ").unwrap_or(words);
-    let (kind, rest) = words.split_once(' ').unwrap_or((words, ""));
-    let change = match kind {
-        "text" => Change::text_from(alloc, quoted(rest))?,
-        "from" => Change::from(quoted(rest).to_owned(alloc)?),
-        "title" => Change::Title(quoted(rest).to_owned(alloc)?),
-        "set" => Change::from(attribute(alloc, rest)?),
-        "line" => Change::LineAttribute(line_attribute(rest)?),
-        "size" => Change::from(line_attribute(rest)?),
-        _ => {
-            let words = match words {
-                "up" => "move =0 ~-1",
-                _ => words.strip_prefix("scroll-").unwrap_or(words),
-            };
-            surfaces::changes::change(alloc, words)?.ok_or(PlayError::Bad)?
+fn change(turn: &mut Turn<'_>) -> Change {
+    let (alloc, copies) = (turn.alloc, turn.takes("copy "));
+    let made = match turn.word() {
+        "text" => {
+            let text = turn.quoted();
+            turn.kept(Change::text_from(alloc, text))
         }
+        "from" => {
+            let text = turn.quoted();
+            Some(Change::from(turn.owned(text)))
+        }
+        "title" => {
+            let text = turn.quoted();
+            Some(Change::Title(turn.owned(text)))
+        }
+        "set" => {
+            let word = turn.word();
+            Some(Change::from(turn.attribute_of(word)))
+        }
+        "line" => Some(Change::LineAttribute(turn.line_attribute())),
+        "size" => Some(Change::from(turn.line_attribute())),
+        "up" => {
+            turn.read("=0 ~-1");
+            turn.change("move")
+        }
+        name => turn.change(name.strip_prefix("scroll-").unwrap_or(name)),
     };
-    if copies {
-        Ok(change.clone()?)
-    } else {
-        Ok(change)
-    }
+    let change = turn.found(made).unwrap_or(Change::Text(String::new(alloc)));
+    turn.copied(change, copies)
 }

@@ -1,82 +1,79 @@
 //! Items of CBOR: what encoding writes, and what decoding reads.
 use crate::error::PlayError;
-use crate::escapes::unescaped;
-use crate::hex::bytes_of;
-use crate::places::distance;
-use crate::words::{first, given};
+use crate::turn::Turn;
 use cbor::{Reader, put_array, put_bool, put_null, put_signed, put_text, put_unsigned};
-use std::alloc::Global;
 use std::fmt::Debug;
 
-pub fn answer(alloc: Global, words: &str, out: &mut String) -> Result<(), PlayError> {
-    let (what, words) = first(words)?;
-    match what {
-        "put" => put(alloc, words, out),
-        "read" => read(alloc, words, out),
-        _ => Err(PlayError::Bad),
+pub fn answer(turn: &mut Turn<'_>) {
+    match turn.word() {
+        "put" => put(turn),
+        "read" => read(turn),
+        _ => turn.fail(PlayError::Bad),
     }
 }
 
 // The bytes of the items, one behind the other.
-fn put(alloc: Global, words: &str, out: &mut String) -> Result<(), PlayError> {
-    let mut bytes = Vec::new(alloc);
-    for word in words.split(' ') {
-        put_item(alloc, &mut bytes, word)?;
+fn put(turn: &mut Turn<'_>) {
+    let mut bytes = Vec::new(turn.alloc);
+    for word in turn.rest().split(' ') {
+        put_item(turn, &mut bytes, word);
     }
     for byte in bytes {
-        write!(out, "{byte:02x}")?;
+        write!(turn, "{byte:02x}");
     }
-    Ok(())
 }
 
-fn put_item(alloc: Global, bytes: &mut Vec<u8>, word: &str) -> Result<(), PlayError> {
+fn put_item(turn: &mut Turn<'_>, bytes: &mut Vec<u8>, word: &str) {
     let (kind, value) = word.split_once('=').unwrap_or((word, ""));
     let put = match kind {
-        "unsigned" => put_unsigned(bytes, given(value)?),
-        "signed" => put_signed(bytes, distance(value)?),
-        "text" => put_text(bytes, unescaped(alloc, value, ' ')?.as_str()),
+        "unsigned" => put_unsigned(bytes, turn.number_of(value)),
+        "signed" => put_signed(bytes, turn.distance_of(value)),
+        "text" => put_text(bytes, turn.unescaped(value, ' ').as_str()),
         "false" => put_bool(bytes, false),
         "true" => put_bool(bytes, true),
         "null" => put_null(bytes),
-        "array" => put_array(bytes, given(value)?),
-        _ => return Err(PlayError::Bad),
+        "array" => put_array(bytes, turn.number_of(value)),
+        _ => return turn.fail(PlayError::Bad),
     };
-    Ok(put?)
+    turn.note(put);
 }
 
 // What the calls return in turn, and how many bytes are left behind them.
-fn read(alloc: Global, words: &str, out: &mut String) -> Result<(), PlayError> {
-    let (limit, words) = first(words)?;
-    let (word, calls) = first(words)?;
-    let bytes = bytes_of(alloc, word)?;
+fn read(turn: &mut Turn<'_>) {
+    let (limit, word) = (turn.word(), turn.word());
+    let bytes = turn.bytes_of(word);
     let mut reader = match limit {
         "all" => Reader::new(bytes.as_slice()),
-        _ => Reader::with_limit(bytes.as_slice(), given(limit)?),
+        _ => Reader::with_limit(bytes.as_slice(), turn.number_of(limit)),
     };
-    for call in calls.split(' ') {
-        push_call(&mut reader, call, out)?;
+    for call in turn.rest().split(' ') {
+        push_call(turn, &mut reader, call);
+        turn.push_str(", ");
     }
-    Ok(write!(out, "left {}", reader.rest().len())?)
+    write!(turn, "left {}", reader.rest().len());
 }
 
-fn push_call(reader: &mut Reader<'_>, call: &str, out: &mut String) -> Result<(), PlayError> {
+fn push_call(turn: &mut Turn<'_>, reader: &mut Reader<'_>, call: &str) {
     let (name, number) = call.split_once('=').unwrap_or((call, "0"));
-    let number = given(number)?;
+    let number = turn.number_of(number);
     match name {
-        "kind" => push_debug(reader.kind(), out),
-        "unsigned" => push_debug(reader.unsigned(), out),
-        "below" => push_debug(reader.below(number), out),
-        "signed" => push_debug(reader.signed(), out),
-        "text" => push_debug(reader.text(), out),
-        "boolean" => push_debug(reader.boolean(), out),
-        "null" => push_debug(reader.null(), out),
-        "array" => push_debug(reader.array(), out),
-        "array-of" => push_debug(reader.array_of(number), out),
-        "list" => push_debug(reader.list(), out),
-        _ => Err(PlayError::Bad),
+        "kind" => turn.push_shown("", reader.kind()),
+        "unsigned" => turn.push_shown("", reader.unsigned()),
+        "below" => turn.push_shown("", reader.below(number)),
+        "signed" => turn.push_shown("", reader.signed()),
+        "text" => turn.push_shown("", reader.text()),
+        "boolean" => turn.push_shown("", reader.boolean()),
+        "null" => turn.push_shown("", reader.null()),
+        "array" => turn.push_shown("", reader.array()),
+        "array-of" => turn.push_shown("", reader.array_of(number)),
+        "list" => turn.push_shown("", reader.list()),
+        _ => turn.fail(PlayError::Bad),
     }
 }
 
-fn push_debug<T: Debug + Drop>(returned: T, out: &mut String) -> Result<(), PlayError> {
-    Ok(write!(out, "{returned:?}, ")?)
+impl Turn<'_> {
+    /// Answers a mark, and what `{:?}` shows of a value behind it.
+    pub fn push_shown<T: Debug + Drop>(&mut self, mark: &str, value: T) {
+        write!(self, "{mark}{value:?}");
+    }
 }

@@ -1,7 +1,6 @@
 //! Questions about links.
 use crate::error::PlayError;
-use crate::words::{first, sides};
-use std::alloc::Global;
+use crate::turn::Turn;
 use std::collections::BTreeMap;
 use termwiz_cell::hyperlink::{Hyperlink, LinkError};
 
@@ -12,84 +11,95 @@ const FAULTS: [LinkError; 4] = [
     LinkError::Memory,
 ];
 
-pub fn answer(alloc: Global, words: &str, out: &mut String) -> Result<(), PlayError> {
-    let (what, words) = first(words)?;
-    match what {
-        "read" => read(alloc, words, out),
-        "show" => show(&link(alloc, words)?, out),
-        "same" => {
-            let (one, other) = sides(words)?;
-            let (one, other) = (link(alloc, one)?, link(alloc, other)?);
-            let (same, params) = (one == other, one.params() == other.params());
-            Ok(write!(out, "{same}, params {params}")?)
+pub fn answer(turn: &mut Turn<'_>) {
+    match turn.word() {
+        "read" => read(turn),
+        "show" => {
+            let link = link(turn);
+            show(turn, &link);
         }
-        _ => Err(PlayError::Bad),
+        "same" => {
+            let (one, other) = turn.sides();
+            turn.read(one);
+            let one = link(turn);
+            turn.read(other);
+            let other = link(turn);
+            let (same, params) = (one == other, one.params() == other.params());
+            write!(turn, "{same}, params {params}");
+        }
+        _ => turn.fail(PlayError::Bad),
     }
 }
 
 /// What each fault is in words.
-pub fn faults(out: &mut String) -> Result<(), PlayError> {
+pub fn faults(turn: &mut Turn<'_>) {
     for fault in FAULTS {
-        writeln!(out, "{fault:?}: {fault}")?;
+        push_fault(turn, fault);
     }
-    Ok(())
+}
+
+fn push_fault(turn: &mut Turn<'_>, fault: LinkError) {
+    writeln!(turn, "{fault:?}: {fault}");
 }
 
 // The link of a sequence's parts, or why it is none. One byte that is no text has a word.
-fn read(alloc: Global, words: &str, out: &mut String) -> Result<(), PlayError> {
-    let mut parts: Vec<&[u8]> = Vec::new(alloc);
-    for word in words.split(';') {
-        parts.push(match word {
+fn read(turn: &mut Turn<'_>) {
+    let mut parts: Vec<&[u8]> = Vec::new(turn.alloc);
+    for word in turn.rest().split(';') {
+        let pushed = parts.push(match word {
             "\\xff" => &[0xff],
             _ => word.as_bytes(),
-        })?;
+        });
+        turn.note(pushed);
     }
-    push_parsed(Hyperlink::parse(alloc, parts.as_slice()), out)
-}
-
-fn push_parsed(
-    parsed: Result<Option<Hyperlink>, LinkError>,
-    out: &mut String,
-) -> Result<(), PlayError> {
-    match parsed {
-        Ok(Some(link)) => show(&link, out),
-        Ok(None) => Ok(out.push_str("none")?),
-        Err(LinkError::Memory) => Err(PlayError::Memory),
-        Err(error) => Ok(write!(out, "{error:?}: {error}")?),
+    match Hyperlink::parse(turn.alloc, parts.as_slice()) {
+        Ok(Some(link)) => show(turn, &link),
+        Ok(None) => turn.push_str("none"),
+        Err(LinkError::Memory) => turn.fail(PlayError::Memory),
+        Err(fault) => push_fault(turn, fault),
     }
 }
 
-fn show(link: &Hyperlink, out: &mut String) -> Result<(), PlayError> {
-    let (uri, count) = (link.uri(), link.params().len());
-    write!(out, "{link}, uri {uri}, params {count}, ")?;
-    Ok(write!(out, "implicit {}", link.is_implicit())?)
+fn show(turn: &mut Turn<'_>, link: &Hyperlink) {
+    let (uri, count, implicit) = (link.uri(), link.params().len(), link.is_implicit());
+    write!(
+        turn,
+        "{link}, uri {uri}, params {count}, implicit {implicit}"
+    );
 }
 
 // The link of some words, or its copy.
-fn link(alloc: Global, words: &str) -> Result<Hyperlink, PlayError> {
-    let copies = words.starts_with("copy ");
-    let (kind, words) = first(words.strip_prefix("copy ").unwrap_or(words))?;
-    let link = match kind {
-        "plain" => Hyperlink::new(alloc, words.to_owned(alloc)?),
-        "implicit" => Hyperlink::new_implicit(alloc, words.to_owned(alloc)?),
-        "id" => {
-            let (id, uri) = first(words)?;
-            Hyperlink::new_with_id(alloc, uri.to_owned(alloc)?, id.to_owned(alloc)?)?
-        }
-        "params" => {
-            let (pairs, uri) = first(words)?;
-            Hyperlink::new_with_params(uri.to_owned(alloc)?, params(alloc, pairs)?)
-        }
-        _ => return Err(PlayError::Bad),
+fn link(turn: &mut Turn<'_>) -> Hyperlink {
+    let (alloc, copies) = (turn.alloc, turn.takes("copy "));
+    let kind = turn.word();
+    let own = match kind {
+        "id" | "params" => turn.word(),
+        _ => "",
     };
-    if copies { Ok(link.clone()?) } else { Ok(link) }
+    let word = turn.word();
+    let uri = turn.owned(word);
+    let made = match kind {
+        "plain" => Some(Hyperlink::new(alloc, uri)),
+        "implicit" => Some(Hyperlink::new_implicit(alloc, uri)),
+        "id" => {
+            let id = turn.owned(own);
+            turn.kept(Hyperlink::new_with_id(alloc, uri, id))
+        }
+        "params" => Some(Hyperlink::new_with_params(uri, params(turn, own))),
+        _ => None,
+    };
+    let none = Hyperlink::new(alloc, String::new(alloc));
+    let link = turn.found(made).unwrap_or(none);
+    turn.copied(link, copies)
 }
 
-fn params(alloc: Global, pairs: &str) -> Result<BTreeMap<String, String>, PlayError> {
-    let mut params = BTreeMap::new(alloc);
+fn params(turn: &mut Turn<'_>, pairs: &str) -> BTreeMap<String, String> {
+    let mut params = BTreeMap::new(turn.alloc);
     for pair in pairs.split(':') {
-        let (key, value) = pair.split_once('=').ok_or(PlayError::Bad)?;
-        params.insert(key.to_owned(alloc)?, value.to_owned(alloc)?)?;
+        let (key, value) = turn.found(pair.split_once('=')).unwrap_or(("", ""));
+        let (key, value) = (turn.owned(key), turn.owned(value));
+        let inserted = params.insert(key, value);
+        turn.note(inserted);
     }
-    Ok(params)
+    params
 }

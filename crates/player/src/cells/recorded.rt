@@ -2,75 +2,67 @@
 //! link of a sequence's parts, in hex digits and `-` for an empty part: `none`, why it is none, or
 //! its uri and its params, and its text where it has at most one. `> color R G B` asks for both
 //! texts of a colour.
-use crate::cells::texts::push_word;
 use crate::error::PlayError;
-use crate::hex::bytes_of;
 use crate::play::Play;
-use crate::words::first;
-use std::alloc::Global;
+use crate::turn::Turn;
 use termwiz_cell::color::RgbColor;
 use termwiz_cell::hyperlink::{Hyperlink, LinkError};
 
 /// Answers the lines.
 #[derive(Drop)]
-pub struct Player(pub Global);
+pub struct Player;
 
 impl Play for Player {
-    fn line(&mut self, line: &str) -> Result<String, PlayError> {
-        let mut out = String::new(self.0);
-        match line.strip_prefix("> parse") {
-            Some(parts) => parse(self.0, parts, &mut out)?,
-            None => color(self.0, line, &mut out)?,
+    fn line(&mut self, turn: &mut Turn<'_>) {
+        if turn.takes("> parse") {
+            parse(turn);
+        } else if turn.takes("> color ") {
+            let color = RgbColor::new_8bpc(part(turn), part(turn), part(turn));
+            turn.push_texts(color, " ");
+        } else {
+            turn.fail(PlayError::Bad);
         }
-        Ok(out)
     }
 }
 
 // Behind each space stands a part.
-fn parse(alloc: Global, words: &str, out: &mut String) -> Result<(), PlayError> {
-    let mut parts: Vec<Vec<u8>> = Vec::new(alloc);
-    for word in words.split(' ').skip(1) {
-        parts.push(bytes_of(alloc, word)?)?;
+fn parse(turn: &mut Turn<'_>) {
+    let mut parts: Vec<Vec<u8>> = Vec::new(turn.alloc);
+    for word in turn.rest().split(' ').skip(1) {
+        let pushed = parts.push(turn.bytes_of(word));
+        turn.note(pushed);
     }
-    let lent: Vec<&[u8]> = parts.iter().map(|part| part.as_slice()).collect(alloc)?;
-    push_parsed(alloc, Hyperlink::parse(alloc, lent.as_slice()), out)
-}
-
-fn push_parsed(
-    alloc: Global,
-    parsed: Result<Option<Hyperlink>, LinkError>,
-    out: &mut String,
-) -> Result<(), PlayError> {
-    let word = match parsed {
-        Ok(Some(link)) => return push_link(alloc, &link, out),
+    let lent = parts.iter().map(|part| part.as_slice()).collect(turn.alloc);
+    let lent: Option<Vec<&[u8]>> = turn.kept(lent);
+    let Some(lent) = lent else {
+        return;
+    };
+    let word = match Hyperlink::parse(turn.alloc, lent.as_slice()) {
+        Ok(Some(link)) => return push_link(turn, &link),
         Ok(None) => "none",
         Err(LinkError::WrongParamCount) => "fault count",
         Err(LinkError::NotUtf8) => "fault utf8",
         Err(LinkError::BadParams) => "fault params",
-        Err(LinkError::Memory) => return Err(PlayError::Memory),
+        Err(LinkError::Memory) => return turn.fail(PlayError::Memory),
     };
-    Ok(out.push_str(word)?)
+    turn.push_str(word);
 }
 
-fn push_link(alloc: Global, link: &Hyperlink, out: &mut String) -> Result<(), PlayError> {
-    push_word(alloc, "link ", link.uri(), out)?;
+fn push_link(turn: &mut Turn<'_>, link: &Hyperlink) {
+    turn.push_word("link ", link.uri());
     for (key, value) in link.params() {
-        push_word(alloc, " ", key.as_str(), out)?;
-        push_word(alloc, "=", value.as_str(), out)?;
+        turn.push_word(" ", key.as_str());
+        turn.push_word("=", value.as_str());
     }
     if link.params().len() <= 1 {
-        push_word(alloc, "\nshown ", link.to_string(alloc)?.as_str(), out)?;
+        if let Some(text) = turn.kept(link.to_string(turn.alloc)) {
+            turn.push_word("\nshown ", text.as_str());
+        }
     }
-    Ok(())
 }
 
-fn color(alloc: Global, line: &str, out: &mut String) -> Result<(), PlayError> {
-    let words = line.strip_prefix("> color ").ok_or(PlayError::Bad)?;
-    let (red, words) = first(words)?;
-    let (green, blue) = first(words)?;
-    let part = |word: &str| word.parse::<u8>().map_err(|_| PlayError::Bad);
-    let color = RgbColor::new_8bpc(part(red)?, part(green)?, part(blue)?);
-    let short = color.to_rgb_string(alloc)?;
-    let long = color.to_x11_16bit_rgb_string(alloc)?;
-    Ok(write!(out, "{short} {long}")?)
+// The part of a colour that the next word writes.
+fn part(turn: &mut Turn<'_>) -> u8 {
+    let part = turn.word().parse().ok();
+    turn.found(part).unwrap_or(0)
 }

@@ -1,115 +1,140 @@
 //! Texts by their words, and questions about texts that are cut into graphemes.
 use crate::error::PlayError;
-use crate::escapes::{escaped, unescaped};
-use crate::words::{given, push_barred};
-use std::alloc::Global;
+use crate::turn::Turn;
+use std::alloc::AllocError;
 use termwiz_text::{Graphemes, JoinedText, is_letter, split_letter_run, split_plain_run};
 use unicode_segmentation::UnicodeSegmentation;
 
-/// The text between quotes. The pictures of control characters stand for these, in the texts here.
-pub fn quoted(word: &str) -> &str {
-    let word = word.strip_prefix('"').unwrap_or(word);
-    match word.strip_suffix('"').unwrap_or(word) {
-        "␊" => "\n",
-        "␍" => "\r",
-        "␉" => "\t",
-        "␍␊" => "\r\n",
-        "aか␍␊" => "aか\r\n",
-        text => text,
+impl<'a> Turn<'a> {
+    /// The text between quotes, which is all that is left to read. The pictures of control
+    /// characters stand for these, in the texts here.
+    pub fn quoted(&mut self) -> &'a str {
+        let words = self.rest();
+        let words = words.strip_prefix('"').unwrap_or(words);
+        match words.strip_suffix('"').unwrap_or(words) {
+            "␊" => "\n",
+            "␍" => "\r",
+            "␉" => "\t",
+            "␍␊" => "\r\n",
+            "aか␍␊" => "aか\r\n",
+            text => text,
+        }
+    }
+
+    /// A text in memory of its own.
+    pub fn owned(&mut self, text: &str) -> String {
+        self.kept(text.to_owned(self.alloc))
+            .unwrap_or(String::new(self.alloc))
+    }
+
+    /// The copy of a value, if it is to be copied, or else the value.
+    pub fn copied<T: Clone>(&mut self, value: T, copies: bool) -> T {
+        if copies {
+            self.kept(value.clone()).unwrap_or(value)
+        } else {
+            value
+        }
+    }
+
+    /// Answers a mark, and the word of a text behind it.
+    pub fn push_word(&mut self, mark: &str, text: &str) {
+        self.push_str(mark);
+        self.push_escaped(text);
     }
 }
 
-/// Adds a mark, and the word of a text behind it.
-pub fn push_word(alloc: Global, mark: &str, text: &str, out: &mut String) -> Result<(), PlayError> {
-    let word = escaped(alloc, text)?;
-    Ok(write!(out, "{mark}{word}")?)
-}
-
-pub fn answer(alloc: Global, topic: &str, words: &str, out: &mut String) -> Result<(), PlayError> {
-    let (how, word) = words.split_once(' ').unwrap_or(("", words));
-    let text = repeated(alloc, word)?;
+pub fn answer(turn: &mut Turn<'_>, topic: &str) {
+    let how = match topic {
+        "run" | "runs" => turn.word(),
+        _ => "",
+    };
+    let text = repeated(turn);
     let text = text.as_str();
     match topic {
-        "cut" => push_pieces(alloc, Graphemes::new(text).collect(alloc)?, out),
-        "whole" => push_pieces(alloc, text.graphemes(true).collect(alloc)?, out),
-        "run" | "runs" => runs(alloc, how, text, out),
-        "letters" => letters(text, out),
-        "joins" => joins(alloc, text, out),
-        "grows" => grows(alloc, text, out),
-        _ => Err(PlayError::Bad),
+        "cut" => push_pieces(turn, Graphemes::new(text).collect(turn.alloc)),
+        "whole" => push_pieces(turn, text.graphemes(true).collect(turn.alloc)),
+        "run" | "runs" => runs(turn, how, text),
+        "letters" => {
+            for c in text.chars() {
+                turn.push(if is_letter(c) { '1' } else { '0' });
+            }
+        }
+        "joins" => joins(turn, text),
+        "grows" => grows(turn, text),
+        _ => turn.fail(PlayError::Bad),
     }
 }
 
 // The text of a word, or of `N*` and a word: so many times that text.
-fn repeated(alloc: Global, word: &str) -> Result<String, PlayError> {
+fn repeated(turn: &mut Turn<'_>) -> String {
+    let word = turn.word();
     let (count, word) = word.split_once('*').unwrap_or(("1", word));
-    let count = given(count)?;
-    let text = unescaped(alloc, word, ' ')?;
-    let mut whole = String::new(alloc);
-    for _ in 0..count {
-        whole.push_str(text.as_str())?;
-    }
-    Ok(whole)
+    let count = turn.number_of(count);
+    let text = turn.unescaped(word, ' ');
+    let repeated = text.as_str().repeat(turn.alloc, count);
+    turn.kept(repeated).unwrap_or(text)
 }
 
 // Graphemes with a bar behind each.
-fn push_pieces(alloc: Global, pieces: Vec<&str>, out: &mut String) -> Result<(), PlayError> {
-    for piece in pieces {
-        push_barred(out, escaped(alloc, piece)?.as_str())?;
+fn push_pieces(turn: &mut Turn<'_>, pieces: Result<Vec<&str>, AllocError>) {
+    if let Some(pieces) = turn.kept(pieces) {
+        for piece in &pieces {
+            turn.push_escaped(piece);
+            turn.push('|');
+        }
     }
-    Ok(())
 }
 
-fn split<'a>(how: &str, limit: usize, text: &'a str) -> Result<(&'a str, &'a str), PlayError> {
+fn split<'a>(turn: &mut Turn<'_>, how: &str, limit: usize, text: &'a str) -> (&'a str, &'a str) {
     match how {
-        "plain" => Ok(split_plain_run(text, limit)),
-        "letters" => Ok(split_letter_run(text, limit)),
-        _ => Err(PlayError::Bad),
+        "plain" => split_plain_run(text, limit),
+        "letters" => split_letter_run(text, limit),
+        _ => {
+            turn.fail(PlayError::Bad);
+            ("", text)
+        }
     }
 }
 
 // The run of at most so many characters that the text begins with, and the rest; or, with no
 // number, how many characters the runs have for each one from 0 to 29.
-fn runs(alloc: Global, how: &str, text: &str, out: &mut String) -> Result<(), PlayError> {
+fn runs(turn: &mut Turn<'_>, how: &str, text: &str) {
     if let Some((how, limit)) = how.split_once('=') {
-        let (run, rest) = split(how, given(limit)?, text)?;
-        push_word(alloc, "", run, out)?;
-        return push_word(alloc, " ", rest, out);
+        let limit = turn.number_of(limit);
+        let (run, rest) = split(turn, how, limit, text);
+        turn.push_escaped(run);
+        return turn.push_word(" ", rest);
     }
     for limit in 0..30 {
-        let (run, _) = split(how, limit, text)?;
-        write!(out, "{}|", run.chars().count())?;
+        let (run, _) = split(turn, how, limit, text);
+        write!(turn, "{}|", run.chars().count());
     }
-    Ok(())
-}
-
-// A digit for each character: 1 where it is a letter that needs no tables.
-fn letters(text: &str, out: &mut String) -> Result<(), PlayError> {
-    for c in text.chars() {
-        out.push(if is_letter(c) { '1' } else { '0' })?;
-    }
-    Ok(())
 }
 
 // A digit for each character, 1 where it is joined to `a` and the characters before as one
 // grapheme more, and the text that they are then.
-fn joins(alloc: Global, text: &str, out: &mut String) -> Result<(), PlayError> {
-    let mut joined = JoinedText::new(alloc, "a")?;
+fn joins(turn: &mut Turn<'_>, text: &str) {
+    let Some(mut joined) = turn.kept(JoinedText::new(turn.alloc, "a")) else {
+        return;
+    };
     for c in text.chars() {
         let mut bytes = [0; 4];
-        let joins = joined.join(c.encode_utf8(&mut bytes))?;
-        out.push(if joins { '1' } else { '0' })?;
+        let joins = turn.kept(joined.join(c.encode_utf8(&mut bytes)));
+        turn.push(if joins == Some(true) { '1' } else { '0' });
     }
-    push_word(alloc, " ", joined.into_string().as_str(), out)
+    turn.push_word(" ", joined.into_string().as_str());
 }
 
 // How many graphemes of the text are joined to those before, and whether they make the text.
-fn grows(alloc: Global, text: &str, out: &mut String) -> Result<(), PlayError> {
-    let mut joined = JoinedText::new(alloc, "")?;
+fn grows(turn: &mut Turn<'_>, text: &str) {
+    let Some(mut joined) = turn.kept(JoinedText::new(turn.alloc, "")) else {
+        return;
+    };
     let mut count: usize = 0;
     for piece in Graphemes::new(text) {
-        count = count.saturating_add(usize::from(joined.join(piece)?));
+        let joins = turn.kept(joined.join(piece)) == Some(true);
+        count = count.saturating_add(usize::from(joins));
     }
     let same = joined.as_str() == text;
-    Ok(write!(out, "{count}, same {same}")?)
+    write!(turn, "{count}, same {same}");
 }

@@ -1,9 +1,7 @@
 //! Questions about colours, widths and forms, and about what values are by default.
-use crate::cells::texts::quoted;
 use crate::error::PlayError;
-use crate::pens::semantic_type;
-use crate::words::{first, named, sides};
-use std::alloc::Global;
+use crate::pens::SEMANTIC_TYPES;
+use crate::turn::Turn;
 use termwiz_cell::cell::{Blink, Intensity, SemanticType, Underline};
 use termwiz_cell::change::{CursorShape, CursorVisibility, SEQ_ZERO};
 use termwiz_cell::color::{AnsiColor, ColorAttribute, ColorSpec, RgbColor};
@@ -22,101 +20,109 @@ const CLASSIC: [(&str, AnsiColor); 6] = [
     ("white", AnsiColor::White),
 ];
 
-/// The parts of a colour and its texts, or what it is as the colour of a sequence and of a cell.
-pub fn colors(alloc: Global, topic: &str, word: &str, out: &mut String) -> Result<(), PlayError> {
-    match topic {
-        "ansi" => {
-            let color = named(&CLASSIC, word)?;
-            let (index, spec) = (u8::from(color), ColorSpec::from(color));
-            let own = ColorAttribute::from(color);
-            write!(out, "{index}, {spec:?}, {own:?}")?;
+/// The parts of the colour that a text writes, and its texts, or none.
+pub fn color(turn: &mut Turn<'_>) {
+    match RgbColor::from_rgb_str(turn.quoted()) {
+        Some(color) => {
+            write!(turn, "{:?}, ", color.to_tuple_rgb8());
+            turn.push_texts(color, ", ");
         }
-        "spec" => {
-            let spec = ColorSpec::from(RgbColor::from_rgb_str(word).ok_or(PlayError::Bad)?);
-            let own = ColorAttribute::from(spec);
-            write!(out, "{spec:?}, {own:?}")?;
-        }
-        _ => match RgbColor::from_rgb_str(quoted(word)) {
-            Some(color) => {
-                let short = color.to_rgb_string(alloc)?;
-                let long = color.to_x11_16bit_rgb_string(alloc)?;
-                write!(out, "{:?}, {short}, {long}", color.to_tuple_rgb8())?;
-            }
-            None => out.push_str("none")?,
-        },
+        None => turn.push_str("none"),
     }
-    Ok(())
 }
 
-/// The columns of a text, its forms, whether it is white space, or the index of a version.
-pub fn widths(topic: &str, words: &str, out: &mut String) -> Result<(), PlayError> {
-    match topic {
-        "columns" => write!(out, "{}", columns(words)?)?,
+impl Turn<'_> {
+    /// Answers both texts of a colour, with `between` between them.
+    pub fn push_texts(&mut self, color: RgbColor, between: &str) {
+        self.push_made(color.to_rgb_string(self.alloc));
+        self.push_str(between);
+        self.push_made(color.to_x11_16bit_rgb_string(self.alloc));
+    }
+}
+
+/// The index of a classic colour, and what it, or a true one, is as the colour of a sequence and
+/// of a cell.
+pub fn specs(turn: &mut Turn<'_>, topic: &str) {
+    if topic == "ansi" {
+        let color = turn.named(&CLASSIC, AnsiColor::Black);
+        let (index, spec) = (u8::from(color), ColorSpec::from(color));
+        let own = ColorAttribute::from(color);
+        write!(turn, "{index}, {spec:?}, {own:?}");
+    } else {
+        let color = RgbColor::from_rgb_str(turn.word());
+        let spec = ColorSpec::from(turn.found(color).unwrap_or(RgbColor::default()));
+        let own = ColorAttribute::from(spec);
+        write!(turn, "{spec:?}, {own:?}");
+    }
+}
+
+/// The columns of a text by some measure, its forms, or whether it is white space.
+pub fn widths(turn: &mut Turn<'_>, topic: &str) {
+    let how = match topic {
+        "columns" => turn.word(),
+        _ => topic,
+    };
+    let (text, latest) = (turn.quoted(), Some(LATEST_UNICODE_VERSION));
+    let first = text.chars().next();
+    let columns = match how {
         "form" => {
-            let (shown, asked) = Presentation::for_grapheme(&UnicodeWidths, quoted(words));
-            let c = quoted(words).chars().next().ok_or(PlayError::Bad)?;
+            let c = turn.found(first).unwrap_or(' ');
+            let (shown, asked) = Presentation::for_grapheme(&UnicodeWidths, text);
             let alone = Presentation::for_char(&UnicodeWidths, c);
-            write!(out, "{shown:?}, asked {asked:?}, first alone {alone:?}")?;
+            return write!(turn, "{shown:?}, asked {asked:?}, first alone {alone:?}");
         }
         "white" => {
-            let all = is_white_space_grapheme(quoted(words));
-            let first = quoted(words).chars().next().map(is_white_space_char);
-            write!(out, "{all}, first {first:?}")?;
+            let first = first.map(is_white_space_char);
+            return write!(turn, "{}, first {first:?}", is_white_space_grapheme(text));
         }
-        _ => {
-            let version = match words {
-                "9" => UnicodeVersion::new(9),
-                "latest" => LATEST_UNICODE_VERSION,
-                _ => UnicodeVersion {
-                    version: 14,
-                    ambiguous_are_wide: true,
-                },
-            };
-            write!(out, "{}", version.idx())?;
-        }
-    }
-    Ok(())
+        "grapheme" => grapheme_column_width(&UnicodeWidths, text, None),
+        "latest" => unicode_column_width(&UnicodeWidths, text, latest),
+        "one" => unicode_column_width(&OneColumn, text, None),
+        _ => return turn.fail(PlayError::Bad),
+    };
+    write!(turn, "{columns}");
 }
 
-// The columns of a text, by the measure that the first word names.
-fn columns(words: &str) -> Result<usize, PlayError> {
-    let (how, word) = first(words)?;
-    let (text, latest) = (quoted(word), Some(LATEST_UNICODE_VERSION));
-    match how {
-        "grapheme" => Ok(grapheme_column_width(&UnicodeWidths, text, None)),
-        "latest" => Ok(unicode_column_width(&UnicodeWidths, text, latest)),
-        "one" => Ok(unicode_column_width(&OneColumn, text, None)),
-        _ => Err(PlayError::Bad),
-    }
+/// The index of a version.
+pub fn version(turn: &mut Turn<'_>) {
+    let version = match turn.word() {
+        "9" => UnicodeVersion::new(9),
+        "latest" => LATEST_UNICODE_VERSION,
+        _ => UnicodeVersion {
+            version: 14,
+            ambiguous_are_wide: true,
+        },
+    };
+    write!(turn, "{}", version.idx());
 }
 
 /// What the types of styles, cursors and colours are by default, the first number, and the latest
 /// version of Unicode.
-pub fn defaults(out: &mut String) -> Result<(), PlayError> {
-    let (intensity, underline) = (Intensity::default(), Underline::default());
-    write!(out, "Intensity::{intensity:?}, Underline::{underline:?}, ")?;
-    let semantic_type = SemanticType::default();
-    writeln!(out, "SemanticType::{semantic_type:?}")?;
-    let (visibility, shape) = (CursorVisibility::default(), CursorShape::default());
-    write!(out, "CursorVisibility::{visibility:?}, ")?;
-    writeln!(out, "CursorShape::{shape:?}")?;
-    let (color, own) = (RgbColor::default(), ColorAttribute::default());
-    write!(out, "{color:?}, ColorAttribute::{own:?}, ")?;
+pub fn defaults(turn: &mut Turn<'_>) {
+    turn.push_shown("Intensity::", Intensity::default());
+    turn.push_shown(", Underline::", Underline::default());
+    turn.push_shown(", SemanticType::", SemanticType::default());
+    turn.push_shown("\nCursorVisibility::", CursorVisibility::default());
+    turn.push_shown(", CursorShape::", CursorShape::default());
+    turn.push_shown("\n", RgbColor::default());
+    turn.push_shown(", ColorAttribute::", ColorAttribute::default());
     let made = ColorAttribute::from(ColorSpec::default());
-    writeln!(out, "of the default ColorSpec {made:?}")?;
-    Ok(writeln!(out, "number {SEQ_ZERO}, {LATEST_UNICODE_VERSION:?}")?)
+    turn.push_shown(", of the default ColorSpec ", made);
+    turn.push_shown("\nnumber ", SEQ_ZERO);
+    turn.push_shown(", ", LATEST_UNICODE_VERSION);
 }
 
 /// Whether a line below the text and one that is none, and no way to blink, are on.
-pub fn styles(out: &mut String) -> Result<(), PlayError> {
+pub fn styles(turn: &mut Turn<'_>) {
     let (dashed, none) = (bool::from(Underline::Dashed), bool::from(Blink::None));
-    Ok(write!(out, "Underline::Dashed {dashed}, Blink::None {none}")?)
+    write!(turn, "Underline::Dashed {dashed}, Blink::None {none}");
 }
 
 /// Whether one semantic type is below another, and whether the other is at most that one.
-pub fn order(words: &str, out: &mut String) -> Result<(), PlayError> {
-    let (lower, higher) = sides(words)?;
-    let (lower, higher) = (semantic_type(lower)?, semantic_type(higher)?);
+pub fn order(turn: &mut Turn<'_>) {
+    let lower = turn.named(&SEMANTIC_TYPES, SemanticType::Output);
+    turn.takes("| ");
+    let higher = turn.named(&SEMANTIC_TYPES, SemanticType::Output);
     let (below, back) = (lower < higher, higher <= lower);
-    Ok(write!(out, "below {below}, back {back}")?)
+    write!(turn, "below {below}, back {back}");
 }

@@ -5,75 +5,74 @@ use crate::lines::clusters::push_clusters;
 use crate::lines::pens::{push_changes, push_pen};
 use crate::lines::readings::{push_kept, push_readings, sizes};
 use crate::lines::words::{cell, pen};
-use crate::words::{given, pair, push_barred};
-use std::alloc::Global;
+use crate::turn::Turn;
 use std::borrow::CowStr;
 use std::cell::Cell as Place;
-use termwiz_cell::cell::{Cell, CellAttributes};
 use termwiz_line::line::line::{DoubleClickRange, Line};
 
-/// Adds the answer to a question, which may be no text.
-pub fn answer(
-    alloc: Global,
-    line: &mut Line,
-    words: &[&str],
-    out: &mut String,
-) -> Result<(), PlayError> {
-    match words {
-        ["alike", column, other] => {
-            let (column, other) = pair(column, other)?;
-            let cell = line.get_cell(column).ok_or(PlayError::Bad)?;
-            let other = line.get_cell(other).ok_or(PlayError::Bad)?;
-            write!(out, "{}", cell.same_contents(&other))?;
+/// Answers a question, maybe with no text.
+pub fn answer(line: &mut Line, turn: &mut Turn<'_>) {
+    let name = turn.word();
+    match name {
+        "kept" => push_kept(line, turn),
+        "all" => push_readings(line, true, turn),
+        "stored" | "pens" => match line.stored_cells() {
+            Some(cells) => push_stored(name, cells, turn),
+            None => turn.push_str("one text"),
+        },
+        "lent" => {
+            if let Some(cells) = turn.kept(line.cells_mut()) {
+                push_stored(name, cells, turn);
+            }
         }
-        ["columns", from, to] => {
-            let (from, to) = pair(from, to)?;
-            let text = line.columns_as_str(from..to)?;
-            write!(out, "|{text}|")?;
+        "shown" | "cells" | "visible" => push_visible(name, line, turn),
+        "changes" | "lengths" => {
+            let attrs = pen(turn.rest(), turn);
+            push_changes(name, line, &attrs, turn);
         }
-        ["copied", column, word] => copied(alloc, line, given(column)?, word, out)?,
-        ["changes", words @ ..] => {
-            let attrs = pen(alloc, words)?;
-            push_changes(alloc, "changes", line.changes(&attrs)?.as_slice(), out)?;
+        "columns" => {
+            let (from, to) = turn.pair();
+            if let Some(text) = turn.kept(line.columns_as_str(from..to)) {
+                write!(turn, "|{text}|");
+            }
         }
-        [name, number] => about(alloc, line, name, given(number)?, out)?,
-        [name] => alone(alloc, line, name, out)?,
-        _ => return Err(PlayError::Bad),
+        "clusters" | "cell-clusters" | "bytes" | "looks" | "cluster-copies" => {
+            push_clusters(name, line, turn);
+        }
+        "pen" | "cell" | "changed" | "click" | "turning-click" | "alike" | "copied" => {
+            about(line, name, turn);
+        }
+        _ => push_state(line, name, turn),
     }
-    Ok(())
 }
 
 // Questions about a column or a number.
-fn about(
-    alloc: Global,
-    line: &Line,
-    name: &str,
-    number: usize,
-    out: &mut String,
-) -> Result<(), PlayError> {
+fn about(line: &Line, name: &str, turn: &mut Turn<'_>) {
+    let number = turn.number();
     match name {
         "pen" => {
-            let cells = line.stored_cells().ok_or(PlayError::Bad)?;
-            push_pen(alloc, cells.get(number).ok_or(PlayError::Bad)?.attrs(), out)?;
+            let cells = line.stored_cells().unwrap_or(&[]);
+            if let Some(cell) = turn.found(cells.get(number)) {
+                push_pen(cell.attrs(), turn);
+            }
         }
         "cell" => match line.get_cell(number) {
-            Some(cell) => push_cell(alloc, name, cell, out)?,
-            None => out.push_str("none")?,
+            Some(cell) => push_cell(name, cell, turn),
+            None => turn.push_str("none"),
         },
-        "changed" => write!(out, "{}", line.changed_since(number))?,
+        "changed" => write!(turn, "{}", line.changed_since(number)),
         "click" => {
             let range = line.compute_double_click_range(number, |text| text != " ");
-            write!(out, "{range:?}")?;
+            write!(turn, "{range:?}");
         }
-        "turning-click" => push_turning_click(line, number, out)?,
-        _ => return Err(PlayError::Bad),
+        "turning-click" => push_turning_click(line, number, turn),
+        _ => push_likeness(line, name, number, turn),
     }
-    Ok(())
 }
 
 // The range where cells are of a word and of none by turns, and whether it lies in the line, and
 // the column in it or at its end.
-fn push_turning_click(line: &Line, column: usize, out: &mut String) -> Result<(), PlayError> {
+fn push_turning_click(line: &Line, column: usize, turn: &mut Turn<'_>) {
     let last = Place::new(false);
     let clicked = line.compute_double_click_range(column, |_| {
         last.set(!last.get());
@@ -83,84 +82,77 @@ fn push_turning_click(line: &Line, column: usize, out: &mut String) -> Result<()
         DoubleClickRange::Range(range) | DoubleClickRange::RangeWithWrap(range) => range,
     };
     let around = range.start <= column && column <= range.end && range.end <= line.len();
-    Ok(write!(out, "{clicked:?}, around {around}")?)
+    write!(turn, "{clicked:?}, around {around}");
 }
 
-// Whether the copy of a visible cell is this cell, whether the visible one is its copy, and whether
-// it is blank.
-fn copied(
-    alloc: Global,
-    line: &Line,
-    column: usize,
-    word: &str,
-    out: &mut String,
-) -> Result<(), PlayError> {
-    let visible = line.get_cell(column).ok_or(PlayError::Bad)?;
-    let copy = visible.as_cell(alloc)?;
-    let (equal, back) = (copy == cell(alloc, word)?, visible.is_cell(&copy));
-    let blank = visible.is_blank();
-    Ok(write!(out, "equal {equal}, back {back}, blank {blank}")?)
-}
-
-// Questions that stand alone.
-fn alone(alloc: Global, line: &mut Line, name: &str, out: &mut String) -> Result<(), PlayError> {
-    match name {
-        "kept" => push_kept(alloc, line, out),
-        "all" => push_readings(alloc, line, true, out),
-        "stored" | "pens" => match line.stored_cells() {
-            Some(cells) => push_stored(alloc, name, cells, out),
-            None => Ok(out.push_str("one text")?),
-        },
-        "lent" => {
-            let cells: &[Cell] = line.cells_mut()?;
-            push_stored(alloc, name, cells, out)
+// What the visible cell at a column is like: another one, or a cell.
+fn push_likeness(line: &Line, name: &str, column: usize, turn: &mut Turn<'_>) {
+    let Some(visible) = line.get_cell(column) else {
+        return turn.fail(PlayError::Bad);
+    };
+    if name == "alike" {
+        let number = turn.number();
+        if let Some(other) = turn.found(line.get_cell(number)) {
+            write!(turn, "{}", visible.same_contents(&other));
         }
-        "shown" | "cells" | "visible" => push_visible(alloc, name, line, out),
-        "lengths" => {
-            let changes = line.changes(&CellAttributes::blank())?;
-            push_changes(alloc, name, changes.as_slice(), out)
-        }
-        "clusters" | "cell-clusters" | "bytes" | "looks" | "cluster-copies" => {
-            push_clusters(alloc, name, line, out)
-        }
-        _ => push_state(line, name, out),
+        return;
+    }
+    let cell = cell(turn.word(), turn);
+    if let Some(copy) = turn.kept(visible.as_cell(turn.alloc)) {
+        let (equal, back) = (copy == cell, visible.is_cell(&copy));
+        write!(
+            turn,
+            "equal {equal}, back {back}, blank {}",
+            visible.is_blank()
+        );
     }
 }
 
-fn push_state(line: &mut Line, name: &str, out: &mut String) -> Result<(), PlayError> {
+fn push_state(line: &mut Line, name: &str, turn: &mut Turn<'_>) {
     match name {
-        "text" => match line.as_str()? {
-            CowStr::Borrowed(text) => write!(out, "lent |{text}|")?,
-            CowStr::Owned(text) => write!(out, "own |{text}|")?,
+        "text" => match turn.kept(line.as_str()) {
+            Some(CowStr::Borrowed(text)) => write!(turn, "lent |{text}|"),
+            Some(CowStr::Owned(text)) => write!(turn, "own |{text}|"),
+            None => {}
         },
-        "len" => write!(out, "{}", line.len())?,
-        "number" => write!(out, "{}", line.current_seqno())?,
+        "len" => write!(turn, "{}", line.len()),
+        "number" => write!(turn, "{}", line.current_seqno()),
         "size" => {
             for (size, holds) in sizes(line) {
                 if holds {
-                    push_barred(out, size)?;
+                    turn.push_barred(size);
                 }
             }
         }
         "bidi" => {
             let (enabled, hint) = line.bidi_info();
-            write!(out, "{enabled} {hint:?}")?;
+            write!(turn, "{enabled} {hint:?}");
         }
         "zones" => {
-            for zone in line.semantic_zone_ranges()? {
-                write!(out, "{:?} {:?}|", zone.semantic_type, zone.range)?;
+            for zone in turn.kept(line.semantic_zone_ranges()).unwrap_or(&[]) {
+                write!(turn, "{:?} {:?}|", zone.semantic_type, zone.range);
             }
         }
-        "spaces" => write!(out, "{}", line.is_whitespace())?,
-        "link" => write!(out, "{}", line.has_hyperlink())?,
-        "marked" => write!(out, "{}", line.last_cell_was_wrapped())?,
-        // Whether the zones are those of a copy, which keeps none.
-        "fresh" => {
-            let mut copy = line.clone()?;
-            let fresh = copy.semantic_zone_ranges()?;
-            write!(out, "{}", line.semantic_zone_ranges()? == fresh)?;
-        }
-        _ => return Err(PlayError::Bad),
+        _ => push_truth(line, name, turn),
     }
-    Ok(())
+}
+
+fn push_truth(line: &mut Line, name: &str, turn: &mut Turn<'_>) {
+    let holds = match name {
+        "spaces" => line.is_whitespace(),
+        "link" => line.has_hyperlink(),
+        "marked" => line.last_cell_was_wrapped(),
+        "fresh" => is_fresh(line, turn),
+        _ => return turn.fail(PlayError::Bad),
+    };
+    write!(turn, "{holds}");
+}
+
+// Whether the zones are those of a copy, which keeps none.
+fn is_fresh(line: &mut Line, turn: &mut Turn<'_>) -> bool {
+    let Some(mut copy) = turn.kept(line.clone()) else {
+        return false;
+    };
+    let fresh = turn.kept(copy.semantic_zone_ranges());
+    fresh == turn.kept(line.semantic_zone_ranges())
 }

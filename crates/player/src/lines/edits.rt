@@ -1,10 +1,9 @@
 //! Edits of a line by the words of a line of the script.
 use crate::error::PlayError;
-use crate::lines::words::{cell, pen, text};
-use crate::pens::semantic_type;
-use crate::words::{given, named, pair, truth};
-use std::alloc::Global;
-use termwiz_cell::cell::{Cell, CellAttributes};
+use crate::lines::words::{cell, pen, pen_and_number, text};
+use crate::pens::SEMANTIC_TYPES;
+use crate::turn::Turn;
+use termwiz_cell::cell::{Cell, CellAttributes, SemanticType};
 use termwiz_cell::emoji::UnicodeWidths;
 use termwiz_line::line::bidi::{Direction, ParagraphDirectionHint};
 use termwiz_line::line::line::Line;
@@ -28,139 +27,120 @@ pub const HINTS: [(&str, ParagraphDirectionHint); 8] = [
 ];
 
 /// Makes an edit of this name. The last word of most edits is the number that the line is given.
-pub fn edit(alloc: Global, line: &mut Line, name: &str, words: &[&str]) -> Result<(), PlayError> {
+pub fn edit(line: &mut Line, name: &str, turn: &mut Turn<'_>) {
     match name {
-        "compress" if words.is_empty() => return Ok(line.compress_for_scrollback()?),
-        "retype" | "write" | "paint" | "reverse" => return edit_lent(alloc, line, name, words),
-        _ => {}
-    }
-    let (seqno, words) = words.split_last().ok_or(PlayError::Bad)?;
-    let seqno = given(seqno)?;
-    match (name, words) {
-        ("set" | "within" | "insert" | "fill", _) => set_cells(alloc, line, name, words, seqno),
-        ("grapheme" | "overlay" | "erase-within" | "clear", _) => {
-            edit_in_pen(alloc, line, name, words, seqno)
+        "compress" => turn.note(line.compress_for_scrollback()),
+        "retype" => retype(line, turn),
+        "reverse" => reverse(line, turn),
+        "write" | "paint" => edit_lent(line, name, turn),
+        "set" | "within" | "insert" | "fill" => set_cells(line, name, turn),
+        "grapheme" | "overlay" => write_text(line, name, turn),
+        "erase-within" | "clear" => blank_cells(line, name, turn),
+        "mark" | "bidi" | "enable" | "direction" => set_flags(line, name, turn),
+        "run" | "letters" | "erase" | "remove" | "resize" | "blank-out" => {
+            edit_at(line, name, turn);
         }
-        ("run" | "letters" | "erase" | "remove" | "resize" | "blank-out", [column]) => {
-            edit_at(line, name, given(column)?, seqno)
-        }
-        _ => set_flags(line, name, words, seqno),
+        "size" => set_number(line, turn.word(), turn),
+        _ => set_number(line, name, turn),
     }
 }
 
-// Writes what the line lends: the type of each cell, or one cell or its attributes, if it has one
-// at the column.
-fn edit_lent(alloc: Global, line: &mut Line, name: &str, words: &[&str]) -> Result<(), PlayError> {
-    match (name, words) {
-        ("retype", [kind]) => {
-            let semantic_type = semantic_type(kind)?;
-            let cells: &mut [Cell] = line.cells_mut()?;
-            for cell in cells.iter_mut() {
-                cell.attrs_mut().set_semantic_type(semantic_type);
-            }
+// Writes the type of each cell that the line lends.
+fn retype(line: &mut Line, turn: &mut Turn<'_>) {
+    let semantic_type = turn.named(&SEMANTIC_TYPES, SemanticType::Output);
+    if let Some(cells) = turn.kept(line.cells_mut()) {
+        for cell in cells.iter_mut() {
+            cell.attrs_mut().set_semantic_type(semantic_type);
         }
-        ("write", [column, word]) => {
-            let (column, cell) = (given(column)?, cell(alloc, word)?);
-            let cells: &mut [Cell] = line.cells_mut()?;
-            if let Some(lent) = cells.get_mut(column) {
-                *lent = cell;
-            }
-        }
-        ("paint", [column, words @ ..]) => {
-            let (column, attrs) = (given(column)?, pen(alloc, words)?);
-            let cells: &mut [Cell] = line.cells_mut()?;
-            if let Some(lent) = cells.get_mut(column) {
-                *lent.attrs_mut() = attrs;
-            }
-        }
-        ("reverse", [column]) => {
-            let column = given(column)?;
-            let cells: &mut [Cell] = line.cells_mut_for_attr_changes_only()?;
-            if let Some(lent) = cells.get_mut(column) {
-                lent.attrs_mut().set_reverse(true);
-            }
-        }
-        _ => return Err(PlayError::Bad),
     }
-    Ok(())
+}
+
+// Sets reverse in one cell that the line lends for its attributes alone.
+fn reverse(line: &mut Line, turn: &mut Turn<'_>) {
+    let column = turn.number();
+    if let Some(cells) = turn.kept(line.cells_mut_for_attr_changes_only()) {
+        if let Some(lent) = cells.get_mut(column) {
+            lent.attrs_mut().set_reverse(true);
+        }
+    }
+}
+
+// Writes one cell that the line lends, or its attributes, if it has one at the column.
+fn edit_lent(line: &mut Line, name: &str, turn: &mut Turn<'_>) {
+    let column = turn.number();
+    let is_whole = name == "write";
+    let written = if is_whole {
+        cell(turn.word(), turn)
+    } else {
+        Cell::blank()
+    };
+    let attrs = pen(turn.rest(), turn);
+    if turn.has_failed() {
+        return;
+    }
+    if let Some(cells) = turn.kept(line.cells_mut()) {
+        match cells.get_mut(column) {
+            Some(lent) if is_whole => *lent = written,
+            Some(lent) => *lent.attrs_mut() = attrs,
+            None => {}
+        }
+    }
 }
 
 // The margin of an insertion is at least 1.
-fn set_cells(
-    alloc: Global,
-    line: &mut Line,
-    name: &str,
-    words: &[&str],
-    seqno: usize,
-) -> Result<(), PlayError> {
-    let edited = match (name, words) {
-        ("set", [column, word]) => {
-            let (column, cell) = (given(column)?, cell(alloc, word)?);
-            line.set_cell(column, cell, seqno)
-        }
-        ("within", [column, word, width]) => {
-            let (column, width) = pair(column, width)?;
-            let cell = cell(alloc, word)?;
-            line.set_cell_within(column, cell, width, seqno)
-        }
-        ("insert", [column, word, margin]) => {
-            let (column, margin) = pair(column, margin)?;
-            if margin == 0 {
-                return Err(PlayError::Bad);
-            }
-            let cell = cell(alloc, word)?;
-            line.insert_cell(column, cell, margin, seqno)
-        }
-        ("fill", [from, to, word]) => {
-            let (from, to) = pair(from, to)?;
-            let cell = cell(alloc, word)?;
-            line.fill_range(from..to, &cell, seqno)
-        }
-        _ => return Err(PlayError::Bad),
+fn set_cells(line: &mut Line, name: &str, turn: &mut Turn<'_>) {
+    let column = turn.number();
+    let end = if name == "fill" { turn.number() } else { 0 };
+    let cell = cell(turn.word(), turn);
+    let width = turn.number();
+    let seqno = if turn.is_read() { width } else { turn.number() };
+    if turn.has_failed() {
+        return;
+    }
+    let edited = match name {
+        "set" => line.set_cell(column, cell, seqno),
+        "within" => line.set_cell_within(column, cell, width, seqno),
+        "fill" => line.fill_range(column..end, &cell, seqno),
+        _ if width > 0 => line.insert_cell(column, cell, width, seqno),
+        _ => return turn.fail(PlayError::Bad),
     };
-    Ok(edited?)
+    turn.note(edited);
+}
+
+fn write_text(line: &mut Line, name: &str, turn: &mut Turn<'_>) {
+    let column = turn.number();
+    let text = text(turn.word(), turn);
+    let width = if name == "grapheme" { turn.number() } else { 0 };
+    let (attrs, seqno) = pen_and_number(turn);
+    if turn.has_failed() {
+        return;
+    }
+    let (text, widths) = (text.as_str(), &UnicodeWidths);
+    let edited = match name {
+        "grapheme" => line.set_cell_grapheme(column, text, width.min(2), attrs, seqno),
+        _ => line.overlay_text_with_attribute(column, text, &attrs, seqno, widths),
+    };
+    turn.note(edited);
 }
 
 // The margin of an erasure is the column behind the last one, and so at least 1.
-fn edit_in_pen(
-    alloc: Global,
-    line: &mut Line,
-    name: &str,
-    words: &[&str],
-    seqno: usize,
-) -> Result<(), PlayError> {
-    let edited = match (name, words) {
-        ("grapheme", [column, word, width, words @ ..]) => {
-            let (column, width) = pair(column, width)?;
-            let attrs = pen(alloc, words)?;
-            let text = text(alloc, word)?;
-            line.set_cell_grapheme(column, text.as_str(), width.min(2), attrs, seqno)
-        }
-        ("overlay", [column, word, words @ ..]) => {
-            let column = given(column)?;
-            let attrs = pen(alloc, words)?;
-            let text = text(alloc, word)?;
-            let widths = &UnicodeWidths;
-            line.overlay_text_with_attribute(column, text.as_str(), &attrs, seqno, widths)
-        }
-        ("erase-within", [column, margin, words @ ..]) => {
-            let (column, margin) = pair(column, margin)?;
-            if margin == 0 {
-                return Err(PlayError::Bad);
-            }
-            let attrs = pen(alloc, words)?;
-            line.erase_cell_with_margin(column, margin, seqno, attrs)
-        }
-        ("clear", [width, words @ ..]) => {
-            let (width, attrs) = (given(width)?, pen(alloc, words)?);
-            line.resize_and_clear(width, seqno, attrs)
-        }
-        _ => return Err(PlayError::Bad),
+fn blank_cells(line: &mut Line, name: &str, turn: &mut Turn<'_>) {
+    let at = turn.number();
+    let margin = if name == "clear" { 0 } else { turn.number() };
+    let (attrs, seqno) = pen_and_number(turn);
+    if turn.has_failed() {
+        return;
+    }
+    let edited = match name {
+        "clear" => line.resize_and_clear(at, seqno, attrs),
+        _ if margin > 0 => line.erase_cell_with_margin(at, margin, seqno, attrs),
+        _ => return turn.fail(PlayError::Bad),
     };
-    Ok(edited?)
+    turn.note(edited);
 }
 
-fn edit_at(line: &mut Line, name: &str, at: usize, seqno: usize) -> Result<(), PlayError> {
+fn edit_at(line: &mut Line, name: &str, turn: &mut Turn<'_>) {
+    let (at, seqno) = turn.pair();
     let edited = match name {
         "run" => line.set_run(at, "xy", &CellAttributes::blank(), seqno),
         "letters" => {
@@ -170,29 +150,40 @@ fn edit_at(line: &mut Line, name: &str, at: usize, seqno: usize) -> Result<(), P
         "erase" => line.erase_cell(at, seqno),
         "remove" => line.remove_cell(at, seqno),
         "resize" => line.resize(at, seqno),
-        "blank-out" => line.blank_out(at, seqno),
-        _ => return Err(PlayError::Bad),
+        _ => line.blank_out(at, seqno),
     };
-    Ok(edited?)
+    turn.note(edited);
 }
 
-fn set_flags(line: &mut Line, name: &str, words: &[&str], seqno: usize) -> Result<(), PlayError> {
-    match (name, words) {
-        ("prune", []) => line.prune_trailing_blanks(seqno)?,
-        ("take-number", []) => line.update_last_change_seqno(seqno),
-        ("mark", [wrapped]) => line.set_last_cell_was_wrapped(truth(wrapped)?, seqno)?,
-        ("size", ["single"]) => line.set_single_width(seqno),
-        ("size", ["double"]) => line.set_double_width(seqno),
-        ("size", ["top"]) => line.set_double_height_top(seqno),
-        ("size", ["bottom"]) => line.set_double_height_bottom(seqno),
-        ("bidi", [enabled, hint]) => {
-            line.set_bidi_info(truth(enabled)?, named(&HINTS, hint)?, seqno);
+fn set_flags(line: &mut Line, name: &str, turn: &mut Turn<'_>) {
+    match name {
+        "mark" => {
+            let (wrapped, seqno) = (turn.truth(), turn.number());
+            turn.note(line.set_last_cell_was_wrapped(wrapped, seqno));
         }
-        ("enable", [enabled]) => line.set_bidi_enabled(truth(enabled)?, seqno),
-        ("direction", [direction, auto]) => {
-            line.set_direction(named(&DIRECTIONS, direction)?, truth(auto)?, seqno);
+        "enable" => line.set_bidi_enabled(turn.truth(), turn.number()),
+        "bidi" => {
+            let enabled = turn.truth();
+            let hint = turn.named(&HINTS, ParagraphDirectionHint::LeftToRight);
+            line.set_bidi_info(enabled, hint, turn.number());
         }
-        _ => return Err(PlayError::Bad),
+        _ => {
+            let direction = turn.named(&DIRECTIONS, Direction::LeftToRight);
+            line.set_direction(direction, turn.truth(), turn.number());
+        }
     }
-    Ok(())
+}
+
+// Edits of the whole line that are given its number alone, by their names or by its size.
+fn set_number(line: &mut Line, name: &str, turn: &mut Turn<'_>) {
+    let seqno = turn.number();
+    match name {
+        "prune" => turn.note(line.prune_trailing_blanks(seqno)),
+        "take-number" => line.update_last_change_seqno(seqno),
+        "single" => line.set_single_width(seqno),
+        "double" => line.set_double_width(seqno),
+        "top" => line.set_double_height_top(seqno),
+        "bottom" => line.set_double_height_bottom(seqno),
+        _ => turn.fail(PlayError::Bad),
+    }
 }

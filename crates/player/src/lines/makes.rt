@@ -1,65 +1,64 @@
 //! Lines by the words that make them.
 use crate::error::PlayError;
-use crate::lines::words::{cell, pen, text};
-use crate::words::{given, pair};
-use std::alloc::Global;
+use crate::lines::words::{cell, pen_and_number, text};
+use crate::turn::Turn;
 use termwiz_cell::emoji::UnicodeWidths;
 use termwiz_line::line::line::Line;
 
 /// The line that the words behind `new` make.
-pub fn make(alloc: Global, name: &str, words: &[&str]) -> Result<Line, PlayError> {
-    match (name, words) {
-        ("set", _) => set(alloc, words),
-        ("cells", [seqno, words @ ..]) => {
-            let seqno = given(seqno)?;
-            let mut cells = Vec::new(alloc);
-            for word in words {
-                cells.push(cell(alloc, word)?)?;
-            }
-            Ok(Line::from_cells(cells, seqno))
+pub fn make(name: &str, turn: &mut Turn<'_>) -> Option<Line> {
+    match name {
+        "set" => set(turn),
+        "cells" => of_cells(turn),
+        "empty" => Some(Line::new(turn.alloc, turn.number())),
+        "blanks" => {
+            let (width, seqno) = turn.pair();
+            turn.kept(Line::with_width(turn.alloc, width, seqno))
         }
-        ("empty", [seqno]) => Ok(Line::new(alloc, given(seqno)?)),
-        ("blanks", [width, seqno]) => {
-            let (width, seqno) = pair(width, seqno)?;
-            Ok(Line::with_width(alloc, width, seqno)?)
+        "many" => {
+            let width = turn.number();
+            let (cell, seqno) = (cell(turn.word(), turn), turn.number());
+            turn.kept(Line::with_width_and_cell(turn.alloc, width, cell, seqno))
         }
-        ("many", [width, word, seqno]) => {
-            let (width, seqno) = pair(width, seqno)?;
-            let cell = cell(alloc, word)?;
-            Ok(Line::with_width_and_cell(alloc, width, cell, seqno)?)
+        "plain" => {
+            let text = text(turn.word(), turn);
+            turn.kept(Line::from_plain(turn.alloc, text.as_str(), &UnicodeWidths))
         }
-        ("plain", [word]) => of_text(alloc, name, word, &[], 0),
-        ("text" | "wrapping", [word, pen @ .., seqno]) => {
-            of_text(alloc, name, word, pen, given(seqno)?)
-        }
-        _ => Err(PlayError::Bad),
+        _ => in_pen(name, turn),
     }
 }
 
 // Sets the cells one behind another.
-fn set(alloc: Global, words: &[&str]) -> Result<Line, PlayError> {
-    let mut line = Line::with_width(alloc, 0, 0)?;
-    for word in words {
-        let (at, cell) = (line.len(), cell(alloc, word)?);
-        line.set_cell(at, cell, 0)?;
+fn set(turn: &mut Turn<'_>) -> Option<Line> {
+    let mut line = turn.kept(Line::with_width(turn.alloc, 0, 0))?;
+    for word in turn.rest().split(' ') {
+        let (at, cell) = (line.len(), cell(word, turn));
+        turn.note(line.set_cell(at, cell, 0));
     }
-    Ok(line)
+    Some(line)
 }
 
-fn of_text(
-    alloc: Global,
-    name: &str,
-    word: &str,
-    pen_words: &[&str],
-    seqno: usize,
-) -> Result<Line, PlayError> {
-    let attrs = pen(alloc, pen_words)?;
-    let text = text(alloc, word)?;
-    let (text, widths) = (text.as_str(), &UnicodeWidths);
-    let line = match name {
-        "plain" => Line::from_plain(alloc, text, widths),
+fn of_cells(turn: &mut Turn<'_>) -> Option<Line> {
+    let seqno = turn.number();
+    let mut cells = Vec::new(turn.alloc);
+    for word in turn.rest().split_terminator(' ') {
+        let pushed = cells.push(cell(word, turn));
+        turn.note(pushed);
+    }
+    Some(Line::from_cells(cells, seqno))
+}
+
+fn in_pen(name: &str, turn: &mut Turn<'_>) -> Option<Line> {
+    let text = text(turn.word(), turn);
+    let (attrs, seqno) = pen_and_number(turn);
+    let (alloc, text, widths) = (turn.alloc, text.as_str(), &UnicodeWidths);
+    let made = match name {
         "text" => Line::from_text(alloc, text, &attrs, seqno, None, widths),
-        _ => Line::from_text_with_wrapped_last_col(alloc, text, &attrs, seqno, widths),
+        "wrapping" => Line::from_text_with_wrapped_last_col(alloc, text, &attrs, seqno, widths),
+        _ => {
+            turn.fail(PlayError::Bad);
+            return None;
+        }
     };
-    Ok(line?)
+    turn.kept(made)
 }

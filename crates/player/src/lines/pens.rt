@@ -1,90 +1,102 @@
 //! The words of attributes and of changes.
-use crate::error::PlayError;
-use crate::escapes::escaped;
 use crate::lines::words::pen;
 use crate::pens::{BLINKS, INTENSITIES, SEMANTIC_TYPES, UNDERLINES, VERTICAL_ALIGNS};
-use crate::words::{color_word, name_of};
-use std::alloc::Global;
+use crate::turn::Turn;
+use crate::words::name_of;
 use termwiz_cell::cell::{CellAttributes, SemanticType};
 use termwiz_cell::change::Change;
 use termwiz_cell::color::ColorAttribute;
+use termwiz_line::line::line::Line;
 
-/// Adds the words of a pen, and `and more` where these do not say it all.
-pub fn push_pen(alloc: Global, attrs: &CellAttributes, out: &mut String) -> Result<(), PlayError> {
-    let mut list = String::new(alloc);
-    push_words(alloc, attrs, &mut list)?;
+/// Answers the words of a pen, and `and more` where these do not say it all.
+pub fn push_pen(attrs: &CellAttributes, turn: &mut Turn<'_>) {
+    let Some(mut list) = turn.kept(Turn::new(turn.alloc, "")) else {
+        return;
+    };
+    push_words(attrs, &mut list);
+    let Some(list) = turn.kept(list.into_answer()) else {
+        return;
+    };
     let words = list.as_str().strip_prefix(',').unwrap_or("-");
-    out.push_str(words)?;
-    let same = pen(alloc, &[words])? == *attrs;
-    if !same {
-        out.push_str(" and more")?;
+    turn.push_str(words);
+    if pen(words, turn) != *attrs {
+        turn.push_str(" and more");
     }
-    Ok(())
 }
 
-// Adds each word with a comma before it.
-fn push_words(alloc: Global, attrs: &CellAttributes, list: &mut String) -> Result<(), PlayError> {
+fn push_words(attrs: &CellAttributes, list: &mut Turn<'_>) {
+    push_word(true, name_of(&INTENSITIES, &attrs.intensity()), list);
+    push_word(true, name_of(&UNDERLINES, &attrs.underline()), list);
+    push_word(true, name_of(&BLINKS, &attrs.blink()), list);
+    push_word(attrs.italic(), "italic", list);
+    push_word(attrs.reverse(), "reverse", list);
+    push_word(attrs.strikethrough(), "strike", list);
+    push_word(attrs.invisible(), "invisible", list);
+    push_word(attrs.wrapped(), "wrapped", list);
+    push_word(attrs.overline(), "overline", list);
     let kind = attrs.semantic_type();
-    let is_usual = kind == SemanticType::Output;
-    let words = [
-        (true, name_of(&INTENSITIES, &attrs.intensity())),
-        (true, name_of(&UNDERLINES, &attrs.underline())),
-        (true, name_of(&BLINKS, &attrs.blink())),
-        (attrs.italic(), "italic"),
-        (attrs.reverse(), "reverse"),
-        (attrs.strikethrough(), "strike"),
-        (attrs.invisible(), "invisible"),
-        (attrs.wrapped(), "wrapped"),
-        (attrs.overline(), "overline"),
-        (!is_usual, name_of(&SEMANTIC_TYPES, &kind)),
-        (true, name_of(&VERTICAL_ALIGNS, &attrs.vertical_align())),
-        (attrs.hyperlink().is_some(), "link"),
-    ];
-    for (holds, word) in words {
-        if holds && !word.is_empty() {
-            write!(list, ",{word}")?;
-        }
-    }
+    push_word(
+        kind != SemanticType::Output,
+        name_of(&SEMANTIC_TYPES, &kind),
+        list,
+    );
+    push_word(
+        true,
+        name_of(&VERTICAL_ALIGNS, &attrs.vertical_align()),
+        list,
+    );
+    push_word(attrs.hyperlink().is_some(), "link", list);
     for (name, color) in [
-        ("fg", attrs.foreground()),
-        ("bg", attrs.background()),
-        ("ul", attrs.underline_color()),
+        (",fg=", attrs.foreground()),
+        (",bg=", attrs.background()),
+        (",ul=", attrs.underline_color()),
     ] {
         if color != ColorAttribute::Default {
-            write!(list, ",{name}={}", color_word(alloc, color)?)?;
+            list.push_str(name);
+            list.push_color(color);
         }
     }
-    Ok(())
 }
 
-/// Adds changes, each with `|` behind it, or by the words of `entries`, which are those of recorded
-/// answers, or, of `lengths`, how many bytes each text has.
-pub fn push_changes(
-    alloc: Global,
-    form: &str,
-    changes: &[Change],
-    out: &mut String,
-) -> Result<(), PlayError> {
-    for change in changes {
-        match (form, change) {
-            ("lengths", Change::Text(text)) => write!(out, "{}|", text.len())?,
-            ("lengths", _) => {}
-            ("entries", Change::Text(text)) => {
-                write!(out, " text={}", escaped(alloc, text.as_str())?)?;
-            }
-            ("entries", Change::ClearToEndOfLine(color)) => {
-                write!(out, " eol={}", color_word(alloc, *color)?)?;
-            }
-            (_, Change::AllAttributes(attrs)) => {
-                let recorded = form == "entries";
-                out.push_str(if recorded { " pen=" } else { "pen " })?;
-                push_pen(alloc, attrs, out)?;
-                out.push_str(if recorded { "" } else { "|" })?;
-            }
-            ("entries", _) => return Err(PlayError::Bad),
-            (_, Change::Text(text)) => write!(out, "text {text}|")?,
-            _ => write!(out, "{change:?}|")?,
+// Adds a word with a comma before it, where it holds and isn't empty.
+fn push_word(holds: bool, word: &str, list: &mut Turn<'_>) {
+    if holds && !word.is_empty() {
+        list.push(',');
+        list.push_str(word);
+    }
+}
+
+/// Answers the changes that write the line where a pen is set, each with `|` behind it, or by the
+/// words of `entries`, which are those of recorded answers, or, of `lengths`, how many bytes each
+/// text has.
+pub fn push_changes(form: &str, line: &Line, pen: &CellAttributes, turn: &mut Turn<'_>) {
+    if let Some(changes) = turn.kept(line.changes(pen)) {
+        for change in &changes {
+            push_change(form, change, turn);
         }
     }
-    Ok(())
+}
+
+// Answers a change in one of these forms.
+fn push_change(form: &str, change: &Change, turn: &mut Turn<'_>) {
+    let recorded = form == "entries";
+    match change {
+        Change::Text(text) if recorded => {
+            turn.push_str(" text=");
+            turn.push_escaped(text.as_str());
+        }
+        Change::Text(text) if form == "lengths" => write!(turn, "{}|", text.len()),
+        Change::Text(text) => write!(turn, "text {text}|"),
+        _ if form == "lengths" => {}
+        Change::AllAttributes(attrs) => {
+            turn.push_str(if recorded { " pen=" } else { "pen " });
+            push_pen(attrs, turn);
+            turn.push_str(if recorded { "" } else { "|" });
+        }
+        Change::ClearToEndOfLine(color) if recorded => {
+            turn.push_str(" eol=");
+            turn.push_color(*color);
+        }
+        _ => write!(turn, "{change:?}|"),
+    }
 }

@@ -1,53 +1,61 @@
 //! All that is read of a line, in the words of recorded answers.
-use crate::error::PlayError;
-use crate::escapes::escaped;
 use crate::lines::cells::{push_stored, push_visible};
 use crate::lines::clusters::push_clusters;
 use crate::lines::edits::HINTS;
 use crate::lines::pens::push_changes;
 use crate::pens::SEMANTIC_TYPES;
+use crate::turn::Turn;
 use crate::words::name_of;
-use std::alloc::Global;
-use termwiz_cell::cell::{Cell, CellAttributes};
+use termwiz_cell::cell::CellAttributes;
 use termwiz_cell::emoji::UnicodeWidths;
 use termwiz_line::line::line::{DoubleClickRange, Line};
 
 /// The words of truths.
 pub const TRUTHS: [(&str, bool); 2] = [("yes", true), ("no", false)];
 
-/// Adds its length, number and text.
-pub fn push_summary(alloc: Global, line: &Line, out: &mut String) -> Result<(), PlayError> {
-    let text = line.as_str()?;
-    let word = escaped(alloc, &text)?;
-    Ok(write!(out, "{} {} {word}", line.len(), line.current_seqno())?)
-}
-
-/// Adds how many pieces there are, and each one, with whether its text goes on.
-pub fn push_pieces(alloc: Global, pieces: &[Line], out: &mut String) -> Result<(), PlayError> {
-    writeln!(out, "wrap {}", pieces.len())?;
-    for piece in pieces {
-        push_summary(alloc, piece, out)?;
-        writeln!(out, " {}", name_of(&TRUTHS, &piece.last_cell_was_wrapped()))?;
+/// Answers its length, number and text.
+pub fn push_summary(line: &Line, turn: &mut Turn<'_>) {
+    if let Some(text) = turn.kept(line.as_str()) {
+        write!(turn, "{} {} ", line.len(), line.current_seqno());
+        turn.push_escaped(&text);
     }
-    Ok(())
 }
 
-/// Adds what it stores: its length, number and cells, and its flags where it has some.
-pub fn push_kept(alloc: Global, line: &Line, out: &mut String) -> Result<(), PlayError> {
-    write!(out, "{} {}", line.len(), line.current_seqno())?;
-    push_copied(alloc, "kept", line, out)?;
+/// Answers how many pieces there are, and each one, with whether its text goes on.
+pub fn push_pieces(pieces: &[Line], turn: &mut Turn<'_>) {
+    writeln!(turn, "wrap {}", pieces.len());
+    for piece in pieces {
+        push_summary(piece, turn);
+        writeln!(
+            turn,
+            " {}",
+            name_of(&TRUTHS, &piece.last_cell_was_wrapped())
+        );
+    }
+}
+
+/// Answers what it stores: its length, number and cells, and its flags where it has some.
+pub fn push_kept(line: &Line, turn: &mut Turn<'_>) {
+    write!(turn, "{} {}", line.len(), line.current_seqno());
+    push_copied("kept", line, turn);
     let (size, direction, hint) = flags(line);
     if size != "single" || direction != "plain" || hint != "ltr" {
-        write!(out, " flags {size} {direction} {hint}")?;
+        push_flags(line, turn);
     }
-    Ok(())
 }
 
-// Adds the stored cells of a copy.
-fn push_copied(alloc: Global, form: &str, line: &Line, out: &mut String) -> Result<(), PlayError> {
-    let mut copy = line.clone()?;
-    let cells: &[Cell] = copy.cells_mut()?;
-    push_stored(alloc, form, cells, out)
+fn push_flags(line: &Line, turn: &mut Turn<'_>) {
+    let (size, direction, hint) = flags(line);
+    write!(turn, " flags {size} {direction} {hint}");
+}
+
+// Answers the stored cells of a copy.
+fn push_copied(form: &str, line: &Line, turn: &mut Turn<'_>) {
+    if let Some(mut copy) = turn.kept(line.clone()) {
+        if let Some(cells) = turn.kept(copy.cells_mut()) {
+            push_stored(form, cells, turn);
+        }
+    }
 }
 
 /// The names of sizes, each with whether the line has it.
@@ -68,69 +76,74 @@ fn flags(line: &Line) -> (&'static str, &'static str, &'static str) {
     (size, direction, name_of(&HINTS, &hint))
 }
 
-/// Adds each reading on a line of its own: all of them, or those that are recorded of such a line.
-/// Stored cells are read where a cell is wide.
-pub fn push_readings(
-    alloc: Global,
-    line: &Line,
-    all: bool,
-    out: &mut String,
-) -> Result<(), PlayError> {
-    out.push_str("line ")?;
-    push_summary(alloc, line, out)?;
+/// Answers each reading on a line of its own: all of them, or those that are recorded of such a
+/// line. Stored cells are read where a cell is wide.
+pub fn push_readings(line: &Line, all: bool, turn: &mut Turn<'_>) {
+    turn.push_str("line ");
+    push_summary(line, turn);
     let (size, direction, hint) = flags(line);
-    write!(out, "\nflags {size} {direction} {hint}\ncells")?;
-    push_visible(alloc, "placed", line, out)?;
+    write!(turn, "\nflags {size} {direction} {hint}\ncells");
+    push_visible("placed", line, turn);
     if line.visible_cells().any(|cell| cell.width() > 1) {
-        out.push_str("\nstored")?;
-        push_copied(alloc, "recorded", line, out)?;
+        turn.push_str("\nstored");
+        push_copied("recorded", line, turn);
     }
-    push_ranges(alloc, line, out)?;
-    let space = name_of(&TRUTHS, &line.is_whitespace());
-    let wrapped = name_of(&TRUTHS, &line.last_cell_was_wrapped());
-    write!(out, "\nspace {space} wrapped {wrapped}")?;
-    if all || keeps_apart(alloc, line)? {
-        let changes = line.changes(&CellAttributes::blank())?;
-        out.push_str("\nentries")?;
-        push_changes(alloc, "entries", changes.as_slice(), out)?;
+    push_columns(line, turn);
+    push_ranges(line, turn);
+    if all || keeps_apart(line, turn) {
+        turn.push_str("\nentries");
+        push_changes("entries", line, &CellAttributes::blank(), turn);
     }
     // Clusters are recorded where no text of one byte is wide.
     let mut cells = line.visible_cells();
     if all || !cells.any(|cell| cell.str().len() == 1 && cell.width() > 1) {
-        out.push_str("\nclusters")?;
-        push_clusters(alloc, "recorded", line, out)?;
+        turn.push_str("\nclusters");
+        push_clusters("recorded", line, turn);
     }
-    Ok(())
 }
 
-// Texts of columns, double clicks and semantic zones.
-fn push_ranges(alloc: Global, line: &Line, out: &mut String) -> Result<(), PlayError> {
-    out.push_str("\ncolumns")?;
+// Texts of columns.
+fn push_columns(line: &Line, turn: &mut Turn<'_>) {
+    turn.push_str("\ncolumns");
     for columns in [1..3, 2..usize::MAX, 3..1, 0..line.len()] {
-        let text = line.columns_as_str(columns)?;
-        write!(out, " {}", escaped(alloc, text.as_str())?)?;
+        if let Some(text) = turn.kept(line.columns_as_str(columns)) {
+            turn.push(' ');
+            turn.push_escaped(text.as_str());
+        }
     }
-    out.push_str("\nclick")?;
+}
+
+// Double clicks, semantic zones, and whether it is of spaces and goes on.
+fn push_ranges(line: &Line, turn: &mut Turn<'_>) {
+    turn.push_str("\nclick");
     for column in 0..line.len().saturating_add(2) {
         let (range, mark) = match line.compute_double_click_range(column, |text| text != " ") {
             DoubleClickRange::Range(range) => (range, '-'),
             DoubleClickRange::RangeWithWrap(range) => (range, '~'),
         };
-        write!(out, " {}{mark}{}", range.start, range.end)?;
+        write!(turn, " {}{mark}{}", range.start, range.end);
     }
-    out.push_str("\nzones")?;
-    let mut copy = line.clone()?;
-    for zone in copy.semantic_zone_ranges()? {
-        let name = name_of(&SEMANTIC_TYPES, &zone.semantic_type);
-        write!(out, " {name}:{}-{}", zone.range.start, zone.range.end)?;
+    turn.push_str("\nzones");
+    if let Some(mut copy) = turn.kept(line.clone()) {
+        for zone in turn.kept(copy.semantic_zone_ranges()).unwrap_or(&[]) {
+            let name = name_of(&SEMANTIC_TYPES, &zone.semantic_type);
+            write!(turn, " {name}:{}-{}", zone.range.start, zone.range.end);
+        }
     }
-    Ok(())
+    let space = name_of(&TRUTHS, &line.is_whitespace());
+    let wrapped = name_of(&TRUTHS, &line.last_cell_was_wrapped());
+    write!(turn, "\nspace {space} wrapped {wrapped}");
 }
 
 // Whether the cells' texts are the graphemes of the line's text.
-fn keeps_apart(alloc: Global, line: &Line) -> Result<bool, PlayError> {
-    let text = line.as_str()?;
-    let whole = Line::from_plain(alloc, &text, &UnicodeWidths)?;
+fn keeps_apart(line: &Line, turn: &mut Turn<'_>) -> bool {
+    let Some(text) = turn.kept(line.as_str()) else {
+        return false;
+    };
+    let whole = turn.kept(Line::from_plain(turn.alloc, &text, &UnicodeWidths));
+    let Some(whole) = whole else {
+        return false;
+    };
     let own = line.visible_cells().map(|cell| cell.str());
-    Ok(own.eq(whole.visible_cells().map(|cell| cell.str())))
+    own.eq(whole.visible_cells().map(|cell| cell.str()))
 }

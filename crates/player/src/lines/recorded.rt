@@ -5,10 +5,12 @@ use crate::error::PlayError;
 use crate::lines::makes::make;
 use crate::lines::readings::{TRUTHS, push_pieces, push_readings, push_summary};
 use crate::lines::stage::Stage;
-use crate::words::{given, name_of, pair};
+use crate::turn::Turn;
+use crate::words::{name_of, named};
+use termwiz_line::line::line::Line;
 
 // The names of calls that are commands of the transcripts under other names.
-const NAMES: [(&str, &str); 11] = [
+const NAMES: [(&str, &str); 12] = [
     ("copy", "clone"),
     ("columns", "part"),
     ("new", "empty"),
@@ -16,6 +18,7 @@ const NAMES: [(&str, &str); 11] = [
     ("repeat", "many"),
     ("wrappedtext", "wrapping"),
     ("put", "grapheme"),
+    ("margin", "erase-within"),
     ("wrapped", "mark"),
     ("number", "take-number"),
     ("bidi", "enable"),
@@ -23,85 +26,77 @@ const NAMES: [(&str, &str); 11] = [
 ];
 
 impl Stage {
-    /// Makes a call on the line in the register that is set. Some calls have their words in another
-    /// order than a command has.
-    pub fn call<'a>(
-        &mut self,
-        name: &'a str,
-        words: &[&'a str],
-        out: &mut String,
-    ) -> Result<(), PlayError> {
-        let name = command_name(name);
-        let mut beside = self.on;
-        match (name, words) {
-            ("?", []) => return push_readings(self.alloc, self.own()?, false, out),
-            ("equal", [other]) => {
-                return Ok(out.push_str(name_of(&TRUTHS, &self.is_same(other)?))?);
+    /// Makes a call on the line in a register.
+    pub fn call(&mut self, turn: &mut Turn<'_>) {
+        self.on = turn.number();
+        let word = turn.word();
+        match named(&NAMES, word).unwrap_or(word) {
+            "?" => {
+                if let Some(line) = self.own(turn) {
+                    push_readings(line, false, turn);
+                }
             }
-            ("compress", []) => return self.command(name, words),
-            ("clone", [to]) => self.put(to, name, &[])?,
-            ("split" | "part", [words @ .., to]) => {
-                self.put(to, name, words)?;
-                beside = given(to)?;
+            "equal" => {
+                let same = self.is_same(turn);
+                turn.push_str(name_of(&TRUTHS, &same));
             }
-            ("wrap", [width, seqno, to, piece]) => {
-                self.wrap_into(pair(width, seqno)?, pair(to, piece)?, out)?;
+            "compress" => self.command("compress", turn),
+            name => {
+                let beside = self.change(name, turn);
+                self.push_register(self.on, turn);
+                if beside != self.on {
+                    turn.push('\n');
+                    self.push_register(beside, turn);
+                }
             }
-            ("cells" | "plain" | "text" | "empty" | "blanks" | "many" | "wrapping", _) => {
-                let line = make(self.alloc, name, words)?;
-                *self.own()? = line;
-            }
-            ("margin", [column, end, seqno, pen]) => {
-                self.command("erase-within", &[column, end, pen, seqno])?;
-            }
-            ("clear", [width, seqno, pen]) => self.command("clear", &[width, pen, seqno])?,
-            ("single" | "double" | "top" | "bottom", [seqno]) => {
-                self.command("size", &[name, seqno])?;
-            }
-            _ => self.command(name, words)?,
-        }
-        push_summary(self.alloc, self.own()?, out)?;
-        if beside != self.on {
-            out.push('\n')?;
-            push_summary(
-                self.alloc,
-                self.lines.get(beside).ok_or(PlayError::Bad)?,
-                out,
-            )?;
-        }
-        Ok(())
-    }
-
-    // Puts what is made of the line into a register.
-    fn put(&mut self, to: &str, name: &str, words: &[&str]) -> Result<(), PlayError> {
-        let line = self.made(name, words)?;
-        *self.lines.get_mut(given(to)?).ok_or(PlayError::Bad)? = line;
-        Ok(())
-    }
-
-    // Adds the pieces of a copy, at a width and with a number, and puts one, whose number is
-    // counted round, into a register.
-    fn wrap_into(
-        &mut self,
-        size: (usize, usize),
-        to: (usize, usize),
-        out: &mut String,
-    ) -> Result<(), PlayError> {
-        let pieces = self.own()?.clone()?.wrap(size.0, size.1)?;
-        push_pieces(self.alloc, pieces.as_slice(), out)?;
-        let number = to.1.checked_rem(pieces.len()).ok_or(PlayError::Bad)?;
-        let piece = pieces.get(number).ok_or(PlayError::Bad)?.clone()?;
-        *self.lines.get_mut(to.0).ok_or(PlayError::Bad)? = piece;
-        Ok(())
-    }
-}
-
-// The command of a recorded call's name.
-fn command_name<'a>(name: &'a str) -> &'a str {
-    for (call, command) in &NAMES {
-        if *call == name {
-            return command;
         }
     }
-    name
+
+    // Makes a call that changes registers, and returns the number of the one that is answered
+    // beside the line's own.
+    fn change(&mut self, name: &str, turn: &mut Turn<'_>) -> usize {
+        match name {
+            "clone" | "split" | "part" => {
+                let made = self.made(name, turn);
+                let to = turn.number();
+                self.put(to, made, turn);
+                return if name == "clone" { self.on } else { to };
+            }
+            "wrap" => self.wrap_into(turn),
+            "cells" | "plain" | "text" | "empty" | "blanks" | "many" | "wrapping" => {
+                let made = make(name, turn);
+                self.put(self.on, made, turn);
+            }
+            _ => self.command(name, turn),
+        }
+        self.on
+    }
+
+    // Answers the pieces of a copy, and puts one, whose number is counted round, into a register.
+    fn wrap_into(&mut self, turn: &mut Turn<'_>) {
+        let Some(pieces) = self.pieces(turn) else {
+            return;
+        };
+        push_pieces(pieces.as_slice(), turn);
+        let (to, number) = turn.pair();
+        let number = number.checked_rem(pieces.len()).unwrap_or(0);
+        if let Some(piece) = turn.found(pieces.get(number)) {
+            let copy = turn.kept(piece.clone());
+            self.put(to, copy, turn);
+        }
+    }
+
+    // Puts a line into a register, if it was made.
+    fn put(&mut self, to: usize, made: Option<Line>, turn: &mut Turn<'_>) {
+        match (made, self.lines.get_mut(to)) {
+            (Some(line), Some(register)) => *register = line,
+            _ => turn.fail(PlayError::Bad),
+        }
+    }
+
+    fn push_register(&self, number: usize, turn: &mut Turn<'_>) {
+        if let Some(line) = turn.found(self.lines.get(number)) {
+            push_summary(line, turn);
+        }
+    }
 }

@@ -4,7 +4,8 @@
 //! changes as the program prints them, and `draw X Y`, of which the program shows the first one.
 use crate::error::PlayError;
 use crate::play::Play;
-use crate::words::pair;
+use crate::surfaces::sizes::checked_size;
+use crate::turn::Turn;
 use sessions::printed::Printed;
 use sessions::view::script::{Events, read};
 use std::alloc::Global;
@@ -15,100 +16,104 @@ use termwiz_surface::view::{Event, Outcome};
 
 type Shown = Surface<UnicodeWidths>;
 
-// The most columns of a surface, and its most rows.
-const MOST: usize = 1000;
-
 /// The two surfaces of a case.
 #[derive(Drop)]
 pub struct Player {
-    alloc: Global,
     a: Shown,
     b: Shown,
 }
 
 impl Play for Player {
-    fn line(&mut self, line: &str) -> Result<String, PlayError> {
-        let mut out = String::new(self.alloc);
-        match line.split_once(' ') {
-            Some(("a", line)) => make(self.alloc, &mut self.a, line)?,
-            Some(("b", line)) => make(self.alloc, &mut self.b, line)?,
-            _ => {
-                let words: Vec<&str> = line.split(' ').collect(self.alloc)?;
-                self.answer(words.as_slice(), &mut out)?;
+    fn line(&mut self, turn: &mut Turn<'_>) {
+        match turn.word() {
+            "a" => make(turn, &mut self.a),
+            "b" => make(turn, &mut self.b),
+            "case" => {
+                set(turn, &mut self.a);
+                set(turn, &mut self.b);
             }
+            ">" => self.answer(turn),
+            _ => turn.fail(PlayError::Bad),
         }
-        Ok(out)
     }
 }
 
 impl Player {
     pub fn new(alloc: Global) -> Result<Player, PlayError> {
         Ok(Player {
-            alloc,
-            a: surface(alloc, "1", "1")?,
-            b: surface(alloc, "1", "1")?,
+            a: Surface::new(alloc, 1, 1, UnicodeWidths)?,
+            b: Surface::new(alloc, 1, 1, UnicodeWidths)?,
         })
     }
 
-    fn answer(&mut self, words: &[&str], out: &mut String) -> Result<(), PlayError> {
-        let changes = match words {
-            ["case", width, height, other_width, other_height] => {
-                self.a = surface(self.alloc, width, height)?;
-                self.b = surface(self.alloc, other_width, other_height)?;
-                return Ok(());
+    fn answer(&mut self, turn: &mut Turn<'_>) {
+        let changes = match turn.word() {
+            "draw" => return self.draw(turn),
+            "diff_screens" => {
+                if turn.word() == "a" {
+                    self.a.diff_screens(&self.b)
+                } else {
+                    self.b.diff_screens(&self.a)
+                }
             }
-            [">", "draw", x, y] => return self.draw(pair(x, y)?, out),
-            [">", "diff_screens", "a", "b"] => self.a.diff_screens(&self.b)?,
-            [">", "diff_screens", "b", "a"] => self.b.diff_screens(&self.a)?,
-            [">", "diff_region", x, y, width, height, other_x, other_y] => {
-                let ((x, y), (width, height)) = (pair(x, y)?, pair(width, height)?);
-                let (b, (other_x, other_y)) = (&self.b, pair(other_x, other_y)?);
-                self.a
-                    .diff_region(x, y, width, height, b, other_x, other_y)?
+            "diff_region" => {
+                let ((x, y), (width, height)) = (turn.pair(), turn.pair());
+                let (to_x, to_y) = turn.pair();
+                self.a.diff_region(x, y, width, height, &self.b, to_x, to_y)
             }
-            _ => return Err(PlayError::Bad),
+            _ => return turn.fail(PlayError::Bad),
         };
-        push_changes(self.alloc, changes, out)
+        if let Some(changes) = turn.kept(changes) {
+            push_changes(turn, changes);
+        }
     }
 
     // Draws `b` on `a`, and shows that.
-    fn draw(&mut self, place: (usize, usize), out: &mut String) -> Result<(), PlayError> {
-        self.a
-            .draw_from_screen(&self.b, place.0, place.1)
-            .map_err(|_| PlayError::Bad)?;
-        let rows = self.a.screen_chars_to_string()?;
-        let outcome = Outcome::Shown(rows, self.a.cursor_position());
-        Ok(write!(out, "{}", Printed(&outcome))?)
+    fn draw(&mut self, turn: &mut Turn<'_>) {
+        let (x, y) = turn.pair();
+        if self.a.draw_from_screen(&self.b, x, y).is_err() {
+            return turn.fail(PlayError::Bad);
+        }
+        if let Some(rows) = turn.kept(self.a.screen_chars_to_string()) {
+            let outcome = Outcome::Shown(rows, self.a.cursor_position());
+            write!(turn, "{}", Printed(&outcome));
+        }
     }
 }
 
-fn surface(alloc: Global, width: &str, height: &str) -> Result<Shown, PlayError> {
-    let (width, height) = pair(width, height)?;
-    if 0 < width && width <= MOST && 0 < height && height <= MOST {
-        Ok(Surface::new(alloc, width, height, UnicodeWidths)?)
-    } else {
-        Err(PlayError::Bad)
+// Puts a new surface in place of one.
+fn set(turn: &mut Turn<'_>, surface: &mut Shown) {
+    let (width, height) = turn.pair();
+    let Some((width, height)) = checked_size(turn, width, height) else {
+        return;
+    };
+    if let Some(made) = turn.kept(Surface::new(turn.alloc, width, height, UnicodeWidths)) {
+        *surface = made;
     }
 }
 
 // Makes the changes of a script's line, which has no answer.
-fn make(alloc: Global, surface: &mut Shown, line: &str) -> Result<(), PlayError> {
-    let Ok(Events::OfOne(events)) = read(alloc, line) else {
-        return Err(PlayError::Bad);
+fn make(turn: &mut Turn<'_>, surface: &mut Shown) {
+    let Ok(Events::OfOne(events)) = read(turn.alloc, turn.rest()) else {
+        return turn.fail(PlayError::Bad);
     };
     for event in events {
-        let Event::Changes(changes) = event else {
-            return Err(PlayError::Bad);
+        let made = match event {
+            Event::Changes(changes) => surface.add_changes(changes).is_ok(),
+            _ => false,
         };
-        surface.add_changes(changes).map_err(|_| PlayError::Bad)?;
+        if !made {
+            turn.fail(PlayError::Bad);
+        }
     }
-    Ok(())
 }
 
-// Adds the changes as the program prints them.
-fn push_changes(alloc: Global, changes: Vec<Change>, out: &mut String) -> Result<(), PlayError> {
+// Answers the changes as the program prints them.
+fn push_changes(turn: &mut Turn<'_>, changes: Vec<Change>) {
     let outcome = Outcome::Asked(0, changes);
-    let printed = format!(in alloc; "{}", Printed(&outcome))?;
-    let lines = printed.as_str().strip_prefix("number 0\n");
-    Ok(out.push_str(lines.ok_or(PlayError::Bad)?)?)
+    let printed = format!(in turn.alloc; "{}", Printed(&outcome));
+    if let Some(printed) = turn.kept(printed) {
+        let lines = turn.found(printed.as_str().strip_prefix("number 0\n"));
+        turn.push_str(lines.unwrap_or(""));
+    }
 }

@@ -2,11 +2,10 @@
 use crate::error::PlayError;
 use crate::play::Play;
 use crate::scripts::endings::push_ending;
-use crate::surfaces::changes::change;
-use crate::words::{first, given, named, pair};
+use crate::turn::Turn;
 use sessions::printed::PrintedMany;
 use sessions::view::script::{Events, read};
-use std::alloc::{AllocError, Global};
+use std::alloc::Global;
 use std::mem;
 use termwiz_cell::change::Change;
 use termwiz_cell::emoji::UnicodeWidths;
@@ -29,112 +28,111 @@ const ACCEPT_ERRORS: [(&str, AcceptError); 4] = [
 /// The lines of an input, and the changes for an outcome.
 #[derive(Drop)]
 pub struct Stage {
-    alloc: Global,
     input: String,
     changes: Vec<Change>,
 }
 
 impl Play for Stage {
-    fn line(&mut self, line: &str) -> Result<String, PlayError> {
-        let mut out = String::new(self.alloc);
-        match line.strip_prefix('|') {
-            Some(text) => writeln!(self.input, "{text}")?,
-            None => self.answer(line, &mut out)?,
+    fn line(&mut self, turn: &mut Turn<'_>) {
+        if turn.takes("|") {
+            let text = turn.rest();
+            return turn.note(writeln!(self.input, "{text}"));
         }
-        Ok(out)
+        match turn.word() {
+            "case" => *self = Stage::new(turn.alloc),
+            "change" => {
+                let name = turn.word();
+                let change = turn.change(name);
+                if let (Some(change), false) = (turn.found(change), turn.has_failed()) {
+                    turn.note(self.changes.push(change));
+                }
+            }
+            "events" => {
+                push_events(turn, self.input.as_str());
+                self.input.clear();
+            }
+            "report" => push_ending(turn, "report"),
+            "flush" => push_ending(turn, "flush"),
+            name => {
+                if let Some(outcome) = self.outcome(turn, name) {
+                    write!(turn, "{}", PrintedMany(&outcome));
+                }
+            }
+        }
     }
 }
 
 impl Stage {
     pub fn new(alloc: Global) -> Stage {
         Stage {
-            alloc,
             input: String::new(alloc),
             changes: Vec::new(alloc),
         }
     }
 
-    fn answer(&mut self, line: &str, out: &mut String) -> Result<(), PlayError> {
-        let (name, words) = line.split_once(' ').unwrap_or((line, ""));
-        match name {
-            "case" => *self = Stage::new(self.alloc),
-            "change" => {
-                let change = change(self.alloc, words)?;
-                self.changes.push(change.ok_or(PlayError::Bad)?)?;
-            }
-            "events" => {
-                push_events(self.alloc, self.input.as_str(), out)?;
-                self.input.clear();
-            }
-            "report" | "flush" => push_ending(self.alloc, name, out)?,
-            _ => {
-                let outcome = self.outcome(name, words)?;
-                write!(out, "{}", PrintedMany(&outcome))?;
-            }
-        }
-        Ok(())
-    }
-
     // The lines of the input are the rows that are shown.
-    fn outcome(&mut self, name: &str, words: &str) -> Result<ManyOutcome, PlayError> {
-        match name {
-            "answered" => Ok(ManyOutcome::Of(Outcome::Answered(given(words)?))),
-            "refused" => Ok(ManyOutcome::Of(Outcome::Refused(named(&SURFACE_ERRORS, words)?))),
-            "unanswered" => Ok(ManyOutcome::Refused(named(&SURFACE_ERRORS, words)?)),
-            "unaccepted" => Ok(ManyOutcome::NotAccepted(named(&ACCEPT_ERRORS, words)?)),
+    fn outcome(&mut self, turn: &mut Turn<'_>, name: &str) -> Option<ManyOutcome> {
+        let outcome = match name {
+            "answered" => Outcome::Answered(turn.number()),
+            "refused" => Outcome::Refused(turn.named(&SURFACE_ERRORS, SurfaceError::Memory)),
+            "unanswered" => {
+                let error = turn.named(&SURFACE_ERRORS, SurfaceError::Memory);
+                return Some(ManyOutcome::Refused(error));
+            }
+            "unaccepted" => {
+                let error = turn.named(&ACCEPT_ERRORS, AcceptError::Memory);
+                return Some(ManyOutcome::NotAccepted(error));
+            }
             "shown" => {
-                let (x, y) = first(words)?;
-                let place = pair(x, y)?;
-                let rows = mem::replace(&mut self.input, String::new(self.alloc));
-                Ok(ManyOutcome::Of(Outcome::Shown(rows, place)))
+                let rows = mem::replace(&mut self.input, String::new(turn.alloc));
+                Outcome::Shown(rows, turn.pair())
             }
             "asked" => {
-                let number = given(words)?;
-                let changes = mem::replace(&mut self.changes, Vec::new(self.alloc));
-                Ok(ManyOutcome::Of(Outcome::Asked(number, changes)))
+                let changes = mem::replace(&mut self.changes, Vec::new(turn.alloc));
+                Outcome::Asked(turn.number(), changes)
             }
-            _ => Err(PlayError::Bad),
-        }
+            _ => return turn.found(None),
+        };
+        Some(ManyOutcome::Of(outcome))
     }
 }
 
-// Adds each event of a script, on a line of its own.
-fn push_events(alloc: Global, script: &str, out: &mut String) -> Result<(), PlayError> {
-    match read(alloc, script) {
+// Answers each event of a script, on a line of its own.
+fn push_events(turn: &mut Turn<'_>, script: &str) {
+    match read(turn.alloc, script) {
         Ok(Events::OfOne(events)) => {
             for event in events.as_slice() {
-                push_event(event, out)?;
+                push_event(turn, event);
             }
         }
         Ok(Events::OfMany(events)) => {
             for event in events.as_slice() {
-                push_many(event, out)?;
+                push_many(turn, event);
             }
         }
-        Err(_) => return Err(PlayError::Bad),
+        Err(_) => turn.fail(PlayError::Bad),
     }
-    Ok(())
 }
 
-fn push_many(event: &ManyEvent<UnicodeWidths>, out: &mut String) -> Result<(), AllocError> {
+fn push_many(turn: &mut Turn<'_>, event: &ManyEvent<UnicodeWidths>) {
     match event {
-        ManyEvent::On(event) => push_event(event, out),
-        ManyEvent::AnswerFor(viewer) => writeln!(out, "answer {viewer}"),
-        ManyEvent::Deliver(viewer, answer) => writeln!(out, "deliver {viewer} {answer}"),
+        ManyEvent::On(event) => push_event(turn, event),
+        ManyEvent::AnswerFor(viewer) => writeln!(turn, "answer {viewer}"),
+        ManyEvent::Deliver(viewer, answer) => writeln!(turn, "deliver {viewer} {answer}"),
         ManyEvent::ResizeViewer(viewer, width, height) => {
-            writeln!(out, "size {viewer} {width} {height}")
+            writeln!(turn, "size {viewer} {width} {height}")
         }
     }
 }
 
-fn push_event(event: &Event<UnicodeWidths>, out: &mut String) -> Result<(), AllocError> {
+fn push_event(turn: &mut Turn<'_>, event: &Event<UnicodeWidths>) {
     match event {
-        Event::Changes(changes) => writeln!(out, "changes {changes:?}"),
-        Event::Resize(width, height) => writeln!(out, "resize {width} {height}"),
-        Event::Flush(seq) => writeln!(out, "flush {seq}"),
-        Event::Follow => writeln!(out, "view"),
-        Event::Show => writeln!(out, "show"),
-        Event::Ask(seq) => writeln!(out, "ask {seq}"),
-        Event::Draw(..) | Event::Copy(..) => writeln!(out, "another event"),
+        Event::Changes(changes) => writeln!(turn, "changes {changes:?}"),
+        Event::Resize(width, height) => writeln!(turn, "resize {width} {height}"),
+        Event::Flush(seq) => writeln!(turn, "flush {seq}"),
+        Event::Follow => writeln!(turn, "view"),
+        Event::Show => writeln!(turn, "show"),
+        Event::Ask(seq) => writeln!(turn, "ask {seq}"),
+        Event::Draw(..) | Event::Copy(..) => writeln!(turn, "another event"),
     }
 }

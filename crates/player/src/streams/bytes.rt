@@ -1,8 +1,8 @@
 //! Values as bytes, and what becomes of damaged bytes.
 use crate::error::PlayError;
 use crate::streams::followed::Followed;
-use std::alloc::Global;
-use termwiz_cell::emoji::{UnicodeWidths, Widths};
+use crate::turn::Turn;
+use termwiz_cell::emoji::{OneColumn, UnicodeWidths, Widths};
 use termwiz_wire::{
     Limits, WireError, decode_answer, decode_ask, decode_change, decode_head, encode_answer,
     encode_ask, encode_change,
@@ -12,70 +12,92 @@ use termwiz_wire::{
 #[derive(Clone, Copy, PartialEq, Eq)]
 pub enum Kind {
     Change,
+    /// A change where each text has one column.
+    Narrow,
     Answer,
     Head,
     Ask,
 }
 
-/// Decodes the value that bytes begin with, and encodes it again. Returns whether its encoding is
-/// what it was decoded from, or the place of its fault is among the bytes. With `shows` a line says
-/// which value or fault it is.
-pub fn decode<W: Widths>(
-    alloc: Global,
-    widths: &W,
-    kind: Kind,
-    bytes: &[u8],
-    shows: bool,
-    out: &mut String,
-) -> Result<bool, PlayError> {
-    let mut again = Vec::new(alloc);
-    let decoded = match kind {
-        Kind::Change => match decode_change(alloc, widths, bytes) {
+// The bytes of a value that is encoded again, and how many bytes it was decoded from.
+type Again = Result<(Vec<u8>, usize), WireError>;
+
+impl Turn<'_> {
+    /// Decodes the value that bytes begin with, and encodes it again. Returns whether its encoding
+    /// is what it was decoded from, or the place of its fault is among the bytes. With `shows` it
+    /// answers which value or fault it is.
+    pub fn decode(&mut self, kind: Kind, bytes: &[u8], shows: bool) -> bool {
+        let again = match kind {
+            Kind::Change => self.change_again(&UnicodeWidths, bytes, shows),
+            Kind::Narrow => self.change_again(&OneColumn, bytes, shows),
+            Kind::Answer => self.answer_again(bytes, shows),
+            Kind::Ask => self.ask_again(bytes, shows),
+            // Of a head nothing is encoded.
+            Kind::Head => match decode_head(Limits::default(), bytes) {
+                Ok(head) => {
+                    writeln!(self, "{head:?}");
+                    Ok((Vec::new(self.alloc), 0))
+                }
+                Err(fault) => Err(WireError::Fault(fault)),
+            },
+        };
+        match again {
+            Ok((again, taken)) => again.len() == taken && bytes.starts_with(again.as_slice()),
+            Err(WireError::Memory) => {
+                self.fail(PlayError::Memory);
+                false
+            }
+            Err(WireError::Fault(fault)) => {
+                if shows {
+                    writeln!(self, "{fault}");
+                }
+                fault.at <= bytes.len()
+            }
+        }
+    }
+
+    fn change_again<W: Widths>(&mut self, widths: &W, bytes: &[u8], shows: bool) -> Again {
+        match decode_change(self.alloc, widths, bytes) {
             Ok((change, taken)) => {
                 if shows {
-                    writeln!(out, "{change:?}")?;
+                    writeln!(self, "{change:?}");
                 }
-                encode_change(&mut again, widths, &change)?;
-                Ok(taken)
+                let mut again = Vec::new(self.alloc);
+                let encoded = encode_change(&mut again, widths, &change);
+                self.note(encoded);
+                Ok((again, taken))
             }
             Err(error) => Err(error),
-        },
-        Kind::Answer => match decode_answer(alloc, widths, Limits::default(), bytes) {
+        }
+    }
+
+    fn answer_again(&mut self, bytes: &[u8], shows: bool) -> Again {
+        match decode_answer(self.alloc, &UnicodeWidths, Limits::default(), bytes) {
             Ok((sent, taken)) => {
                 if shows {
-                    writeln!(out, "{sent:?}")?;
+                    writeln!(self, "{sent:?}");
                 }
-                encode_answer(&mut again, widths, sent.source, &sent.answer)?;
-                Ok(taken)
+                let mut again = Vec::new(self.alloc);
+                let encoded = encode_answer(&mut again, &UnicodeWidths, sent.source, &sent.answer);
+                self.note(encoded);
+                Ok((again, taken))
             }
             Err(error) => Err(error),
-        },
-        Kind::Head => match decode_head(Limits::default(), bytes) {
-            Ok(head) => {
-                writeln!(out, "{head:?}")?;
-                Ok(0)
-            }
-            Err(fault) => Err(WireError::Fault(fault)),
-        },
-        Kind::Ask => match decode_ask(bytes) {
+        }
+    }
+
+    fn ask_again(&mut self, bytes: &[u8], shows: bool) -> Again {
+        match decode_ask(bytes) {
             Ok((ask, taken)) => {
                 if shows {
-                    writeln!(out, "{ask:?}")?;
+                    writeln!(self, "{ask:?}");
                 }
-                encode_ask(&mut again, ask)?;
-                Ok(taken)
+                let mut again = Vec::new(self.alloc);
+                let encoded = encode_ask(&mut again, ask);
+                self.note(encoded);
+                Ok((again, taken))
             }
             Err(error) => Err(error),
-        },
-    };
-    match decoded {
-        Ok(taken) => Ok(again.len() == taken && bytes.starts_with(again.as_slice())),
-        Err(WireError::Memory) => Err(PlayError::Memory),
-        Err(WireError::Fault(fault)) => {
-            if shows {
-                writeln!(out, "{fault}")?;
-            }
-            Ok(fault.at <= bytes.len())
         }
     }
 }
@@ -92,38 +114,36 @@ pub enum Trial {
 impl Trial {
     /// Takes all that differs from these bytes in one byte, and all that they begin with, and
     /// returns how many inputs these are.
-    pub fn count(&mut self, alloc: Global, bytes: &[u8]) -> Result<usize, PlayError> {
+    pub fn count(&mut self, turn: &mut Turn<'_>, bytes: &[u8]) -> usize {
         let mut count = 0usize;
-        let mut damaged = Vec::new(alloc);
-        damaged.extend_from_slice(bytes)?;
+        let mut damaged = Vec::new(turn.alloc);
+        let copied = damaged.extend_from_slice(bytes);
+        turn.note(copied);
         for i in 0..bytes.len() {
             for byte in 0..=255u8 {
                 if let Some(place) = damaged.get_mut(i) {
                     *place = byte;
                 }
-                self.meet(alloc, damaged.as_slice())?;
+                self.meet(turn, damaged.as_slice());
                 count = count.wrapping_add(1);
             }
             if let Some(place) = damaged.get_mut(i) {
                 *place = bytes[i];
             }
-            self.meet(alloc, bytes.get(..i).ok_or(PlayError::Bad)?)?;
+            self.meet(turn, bytes.get(..i).unwrap_or(&[]));
             count = count.wrapping_add(1);
         }
-        Ok(count)
+        count
     }
 
     // Takes the bytes, and fails where they aren't met as they have to be.
-    fn meet(&mut self, alloc: Global, bytes: &[u8]) -> Result<(), PlayError> {
-        match self {
-            Trial::Fed(followed) => followed.meet(bytes),
-            Trial::Decoded(kind) => {
-                let mut unshown = String::new(alloc);
-                match decode(alloc, &UnicodeWidths, *kind, bytes, false, &mut unshown)? {
-                    true => Ok(()),
-                    false => Err(PlayError::Differs),
-                }
-            }
+    fn meet(&mut self, turn: &mut Turn<'_>, bytes: &[u8]) {
+        let is_met = match self {
+            Trial::Fed(followed) => followed.meets(turn, bytes),
+            Trial::Decoded(kind) => turn.decode(*kind, bytes, false),
+        };
+        if !is_met {
+            turn.fail(PlayError::Differs);
         }
     }
 }

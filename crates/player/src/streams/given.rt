@@ -1,110 +1,125 @@
 //! What the words of a line give, and what a surface shows.
-ghost use Rattle.std.specs.Prelude.{◌<◌, ◌^◌, IfOk};
+ghost use Rattle.std.specs.Prelude.{◌<◌, ◌^◌};
 
 use crate::error::PlayError;
-use crate::escapes::unescaped;
-use crate::hex::bytes_of;
-use crate::words::pair;
-use std::alloc::Global;
+use crate::surfaces::answers::push_rows;
+use crate::surfaces::sizes::checked_size;
+use crate::turn::Turn;
 use termwiz_cell::change::Change;
 use termwiz_cell::emoji::{UnicodeWidths, Widths};
 use termwiz_surface::surface::{Answer, Surface, SurfaceError};
-use termwiz_wire::{Limits, WireError, decode_answer, decode_change, encode_answer, encoded_len};
-
-// The most columns of a surface, and its most rows.
-const MOST: usize = u32::MAX as usize;
+use termwiz_wire::{Limits, WireError, decode_answer, decode_change, encode_answer};
 
 pub type Shown = Surface<UnicodeWidths>;
 
-/// A width and a height that a surface may have, with `x` between them.
-pub fn size(word: &str) -> Result<(usize, usize), PlayError>
-    ensures { IfOk result (λ size.
-        (0 < size.0) × (size.0 < 2 ^ 32) × (0 < size.1) × (size.1 < 2 ^ 32)) }
-{
-    let (width, height) = word.split_once('x').ok_or(PlayError::Bad)?;
-    let (width, height) = pair(width, height)?;
-    if 0 < width && width <= MOST && 0 < height && height <= MOST {
-        Ok((width, height))
-    } else {
-        Err(PlayError::Bad)
+impl Turn<'_> {
+    /// A width and a height that a surface may have, with `x` between them.
+    pub fn size_of(&mut self, word: &str) -> (usize, usize)
+        ensures { (0 < result.0) × (result.0 < 2 ^ 32) × (0 < result.1) × (result.1 < 2 ^ 32) }
+    {
+        let (width, height) = self.found(word.split_once('x')).unwrap_or(("", ""));
+        let (width, height) = (self.number_of(width), self.number_of(height));
+        match checked_size(self, width, height) {
+            Some(size) => size,
+            None => (1, 1),
+        }
     }
-}
 
-/// The changes of some words: `=` and a text, or the bytes that encode a change.
-pub fn changes(alloc: Global, words: &[&str]) -> Result<Vec<Change>, PlayError> {
-    let mut changes = Vec::new(alloc);
-    for word in words {
-        changes.push(match word.strip_prefix('=') {
-            Some(text) => Change::Text(unescaped(alloc, text, ' ')?),
-            None => {
-                let bytes = bytes_of(alloc, word)?;
-                decoded(decode_change(alloc, &UnicodeWidths, bytes.as_slice()))?
-            }
-        })?;
+    /// The changes of some words: `=` and a text, or the bytes that encode a change.
+    pub fn changes_of(&mut self, words: &str) -> Vec<Change> {
+        let mut changes = Vec::new(self.alloc);
+        if words.is_empty() {
+            return changes;
+        }
+        for word in words.split(' ') {
+            let change = match word.strip_prefix('=') {
+                Some(text) => Some(Change::Text(self.unescaped(text, ' '))),
+                None => {
+                    let bytes = self.bytes_of(word);
+                    self.decoded(decode_change(self.alloc, &UnicodeWidths, bytes.as_slice()))
+                }
+            };
+            self.keep(&mut changes, change);
+        }
+        changes
     }
-    Ok(changes)
-}
 
-/// What a call made of a surface, unless memory was refused to it.
-pub fn made<T: Drop>(made: Result<T, SurfaceError>) -> Result<T, PlayError> {
-    match made {
-        Ok(made) => Ok(made),
-        Err(SurfaceError::Memory) => Err(PlayError::Memory),
-        Err(_) => Err(PlayError::Bad),
+    /// Keeps the fault of a call on a surface, if it has one.
+    pub fn note_change<T: Drop>(&mut self, made: Result<T, SurfaceError>) {
+        match made {
+            Ok(_) => {}
+            Err(SurfaceError::Memory) => self.fail(PlayError::Memory),
+            Err(_) => self.fail(PlayError::Bad),
+        }
     }
-}
 
-/// The value that a call decoded, unless memory was refused to it.
-pub fn decoded<T: Drop>(decoded: Result<(T, usize), WireError>) -> Result<T, PlayError> {
-    match decoded {
-        Ok((value, _)) => Ok(value),
-        Err(WireError::Memory) => Err(PlayError::Memory),
-        Err(WireError::Fault(_)) => Err(PlayError::Bad),
+    /// The value that a call decoded, unless it failed.
+    pub fn decoded<T: Drop>(&mut self, decoded: Result<(T, usize), WireError>) -> Option<T> {
+        match decoded {
+            Ok((value, _)) => return Some(value),
+            Err(WireError::Memory) => self.fail(PlayError::Memory),
+            Err(WireError::Fault(_)) => self.fail(PlayError::Bad),
+        }
+        None
     }
-}
 
-/// An answer that was encoded, as as many bytes as it is counted to have, and decoded.
-pub fn sent<W: Widths>(alloc: Global, widths: &W, answer: &Answer) -> Result<Answer, PlayError> {
-    let mut bytes = Vec::new(alloc);
-    encode_answer(&mut bytes, widths, 1, answer)?;
-    if encoded_len(widths, 1, answer) != bytes.len() {
-        return Err(PlayError::Differs);
+    /// An answer that was encoded and decoded.
+    pub fn sent<W: Widths>(&mut self, widths: &W, answer: &Answer<'_>) -> Option<Answer<'static>> {
+        let mut bytes = Vec::new(self.alloc);
+        let encoded = encode_answer(&mut bytes, widths, 1, answer);
+        self.note(encoded);
+        let limits = Limits::default();
+        let sent = self.decoded(decode_answer(self.alloc, widths, limits, bytes.as_slice()))?;
+        Some(sent.answer)
     }
-    let limits = Limits::default();
-    let sent = decoded(decode_answer(alloc, widths, limits, bytes.as_slice()))?;
-    Ok(sent.answer)
-}
 
-/// A surface of this size, or a full one, after some changes.
-pub fn painted(
-    alloc: Global,
-    size_word: &str,
-    is_full: bool,
-    words: &[&str],
-) -> Result<Shown, PlayError> {
-    let (width, height) = size(size_word)?;
-    let mut surface = if is_full {
-        Surface::new_full(alloc, width, height, UnicodeWidths)?
-    } else {
-        Surface::new(alloc, width, height, UnicodeWidths)?
-    };
-    made(surface.add_changes(changes(alloc, words)?))?;
-    Ok(surface)
-}
-
-/// The rows of a surface, and its cursor.
-pub fn rows(surface: &Shown, out: &mut String) -> Result<(), PlayError> {
-    let shown = surface.screen_chars_to_string()?;
-    for row in shown.lines() {
-        writeln!(out, "|{row}|")?;
+    /// Makes the changes of some words on a surface as one list.
+    pub fn paint<W: Widths>(&mut self, surface: &mut Surface<W>, words: &str) {
+        let changes = self.changes_of(words);
+        if !self.has_failed() {
+            self.note_change(surface.add_changes(changes));
+        }
     }
-    let (x, y) = surface.cursor_position();
-    Ok(writeln!(out, "cursor {x} {y}")?)
-}
 
-/// The rows of a surface, its cursor, and the changes that make its whole screen.
-pub fn screen(surface: &Shown, out: &mut String) -> Result<(), PlayError> {
-    rows(surface, out)?;
-    let repaint = surface.answer(0)?;
-    Ok(writeln!(out, "{:?}", repaint.changes())?)
+    /// A surface of this size, or a full one, after the changes of some words.
+    pub fn painted(&mut self, size: &str, is_full: bool, words: &str) -> Option<Shown> {
+        let (width, height) = self.size_of(size);
+        let blank = if is_full {
+            Surface::new_full(self.alloc, width, height, UnicodeWidths)
+        } else {
+            Surface::new(self.alloc, width, height, UnicodeWidths)
+        };
+        let mut surface = self.kept(blank)?;
+        self.paint(&mut surface, words);
+        Some(surface)
+    }
+
+    /// Answers the rows of a surface, and its cursor.
+    pub fn push_rows(&mut self, surface: &Shown) {
+        if let Some(rows) = self.kept(surface.screen_chars_to_string()) {
+            push_rows(self, rows.as_str(), surface.cursor_position());
+        }
+    }
+
+    /// Answers the rows of a surface, its cursor, and the changes that make its whole screen.
+    pub fn push_screen(&mut self, surface: &Shown) {
+        self.push_rows(surface);
+        if let Some(repaint) = self.kept(surface.answer(0)) {
+            writeln!(self, "{:?}", repaint.changes());
+        }
+    }
+
+    /// The one of a list that the next word numbers.
+    pub fn numbered<'b, T>(&mut self, list: &'b mut Vec<T>) -> Option<&'b mut T> {
+        let number = self.number();
+        self.found(list.get_mut(number))
+    }
+
+    /// Adds what a call made to a list, unless it failed.
+    pub fn keep<T: Drop>(&mut self, list: &mut Vec<T>, made: Option<T>) {
+        if let Some(made) = made {
+            let pushed = list.push(made);
+            self.note(pushed);
+        }
+    }
 }

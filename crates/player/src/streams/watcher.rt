@@ -1,12 +1,11 @@
 //! A client, and the response to its ask.
 use crate::error::PlayError;
-use crate::streams::given::screen;
-use crate::words::given;
-use std::alloc::Global;
+use crate::turn::Turn;
 use std::fmt::Debug;
 use termwiz_cell::emoji::UnicodeWidths;
 use termwiz_share::{Client, ClientError, Source};
-use termwiz_wire::{Ask, decode_ask};
+use termwiz_surface::FullScreen;
+use termwiz_wire::{Ask, Limits, decode_ask};
 use uses::watching::{show_each, take_some};
 
 // What buffers have before a call appends to them.
@@ -15,128 +14,187 @@ const BEFORE: [u8; 8] = [246; 8];
 /// A client, what it asked last, the response, and how many bytes of that it was given.
 #[derive(Drop)]
 pub struct Watcher {
-    pub alloc: Global,
     pub client: Client<UnicodeWidths>,
-    pub ask: Ask,
+    ask: Ask,
     pub response: Vec<u8>,
-    pub given: usize,
+    given: usize,
 }
 
 impl Watcher {
+    /// A client that has no response.
+    pub fn new(turn: &mut Turn<'_>) -> Option<Watcher> {
+        let client = turn.kept(Client::new(turn.alloc, UnicodeWidths, Limits::default()))?;
+        Some(Watcher {
+            ask: client.ask(),
+            client,
+            response: Vec::new(turn.alloc),
+            given: 0,
+        })
+    }
+
     /// Asks, takes the response or a part of it, or says what the client has.
-    pub fn play(&mut self, what: &str, words: &[&str], out: &mut String) -> Result<(), PlayError> {
+    pub fn play(&mut self, turn: &mut Turn<'_>, what: &str) {
         match what {
-            "asks" => self.ask(),
-            "client-shown" => screen(self.client.surface(), out),
+            "asks" => self.ask(turn),
+            "client-shown" => turn.push_screen(self.client.surface()),
             "number" => {
                 let (source, number) = (self.client.source(), self.client.number());
                 let bytes = self.response.len();
-                Ok(write!(out, "source {source}, number {number}, {bytes} bytes")?)
+                write!(turn, "source {source}, number {number}, {bytes} bytes");
             }
             "show-each" => {
-                let mut screens = Vec::new(self.alloc);
+                let mut screens = Vec::new(turn.alloc);
                 let response = self.response.as_slice();
-                push_returned(show_each(&mut self.client, response, &mut screens), out)?;
-                Ok(write!(out, " stale, {} shown", screens.len())?)
+                turn.push_returned(show_each(&mut self.client, response, &mut screens));
+                write!(turn, " stale, {} shown", screens.len());
             }
             "feed" | "keep" | "take" => {
-                let part = words.get(1).copied().unwrap_or("all");
-                push_returned(self.give(what, part)?, out)
+                let part = if turn.is_read() { "all" } else { turn.word() };
+                let returned = self.give(turn, what, part);
+                turn.push_returned(returned);
             }
-            _ => Err(PlayError::Bad),
+            _ => turn.fail(PlayError::Bad),
         }
     }
 
-    /// Asks, by bytes that say what it asks.
-    pub fn ask(&mut self) -> Result<(), PlayError> {
-        let mut bytes = Vec::from_array(self.alloc, BEFORE)?;
-        let is_refused = self.client.encode_ask(&mut bytes).is_err();
-        let appended = bytes.strip_prefix(&BEFORE).ok_or(PlayError::Differs)?;
-        if is_refused {
-            return Err(PlayError::Memory);
+    // Asks, by bytes that say what it asks.
+    fn ask(&mut self, turn: &mut Turn<'_>) {
+        let mut bytes = Vec::new(turn.alloc);
+        let begun = bytes.extend_from_slice(&BEFORE);
+        turn.note(begun);
+        let encoded = self.client.encode_ask(&mut bytes);
+        let appended = turn.appended(bytes.as_slice());
+        turn.note(encoded);
+        if turn.has_failed() {
+            return;
         }
         self.ask = self.client.ask();
         match decode_ask(appended) {
-            Ok((ask, _)) if ask == self.ask => Ok(()),
-            _ => Err(PlayError::Differs),
+            Ok((ask, _)) if ask == self.ask => {}
+            _ => turn.fail(PlayError::Differs),
         }
     }
 
     /// Has the response of a source to what the client asked. Where memory is refused, the source
     /// shows what it showed, and has the number that it had, and as many changes.
-    pub fn receive(&mut self, source: &mut Source<UnicodeWidths>) -> Result<(), PlayError> {
-        let shown = source.surface().full_screen()?;
-        let due = due_from_first(source)?;
-        let mut bytes = Vec::from_array(self.alloc, BEFORE)?;
-        let is_refused = source.respond(self.ask, &mut bytes).is_err();
-        let appended = bytes.strip_prefix(&BEFORE).ok_or(PlayError::Differs)?;
-        if is_refused {
-            if due_from_first(source)? != due || source.surface().full_screen()? != shown {
-                return Err(PlayError::Differs);
-            }
-            return Err(PlayError::Memory);
+    pub fn receive(&mut self, turn: &mut Turn<'_>, source: &mut Source<UnicodeWidths>) {
+        let before = turn.state_of(source);
+        let mut bytes = Vec::new(turn.alloc);
+        let begun = bytes.extend_from_slice(&BEFORE);
+        turn.note(begun);
+        if turn.has_failed() {
+            return;
         }
-        let mut response = Vec::new(self.alloc);
-        response.extend_from_slice(appended)?;
-        self.response = response;
-        self.given = 0;
-        Ok(())
+        let responded = source.respond(self.ask, &mut bytes);
+        let appended = turn.appended(bytes.as_slice());
+        if responded.is_err() && turn.state_of(source) != before {
+            turn.fail(PlayError::Differs);
+        }
+        turn.note(responded);
+        let mut response = Vec::new(turn.alloc);
+        let copied = response.extend_from_slice(appended);
+        turn.note(copied);
+        if !turn.has_failed() {
+            self.response = response;
+            self.given = 0;
+        }
     }
 
-    /// Feeds the client the rest of the response, or with `half` what comes before its middle, or
-    /// lets it keep that, or lets it take so many answers at most of what it keeps.
-    pub fn give(&mut self, how: &str, part: &str) -> Result<Result<usize, ClientError>, PlayError> {
-        let before = self.client.surface().full_screen()?;
+    // Feeds the client the rest of the response, or with `half` what comes before its middle, or
+    // lets it keep that, or lets it take so many answers at most of what it keeps.
+    fn give(&mut self, turn: &mut Turn<'_>, how: &str, part: &str) -> Result<usize, ClientError> {
         let end = match part {
             "half" => self.response.len() / 2,
             _ => self.response.len(),
         };
-        let piece = self.response.get(self.given..end).ok_or(PlayError::Bad)?;
+        let before = turn.kept(self.client.surface().full_screen());
+        let piece = turn
+            .found(self.response.get(self.given..end))
+            .unwrap_or(&[]);
+        if turn.has_failed() {
+            return Err(ClientError::Memory);
+        }
         let taken = match how {
             "feed" => self.client.feed(piece),
             // No answers are taken of bytes that are kept.
             "keep" => self.client.keep(piece).map(|()| 0),
-            _ => take_some(&mut self.client, given(part)?),
+            _ => take_some(&mut self.client, turn.number_of(part)),
         };
         if how != "take" {
             self.given = end;
         }
-        if taken != Err(ClientError::Memory) {
-            return Ok(taken);
+        if taken == Err(ClientError::Memory) {
+            let stands = turn.kept(self.client.surface().full_screen()) == before;
+            self.prepare(turn, stands);
         }
-        // The client stands as it has to, and is made ready for the same call.
-        let mut stands = self.client.surface().full_screen()? == before;
-        if self.client.stopped().is_some() {
+        taken
+    }
+
+    // Makes the client ready for the call to which memory was refused, where it stands as it has
+    // to: it shows what it showed, unless bytes are kept and it lost its number.
+    fn prepare(&mut self, turn: &mut Turn<'_>, is_same: bool) {
+        let stands = if self.client.stopped().is_some() {
             // The bytes are lost.
-            stands = stands && self.client.feed(&[]) == Err(ClientError::Memory);
+            let is_stopped = self.client.feed(&[]) == Err(ClientError::Memory);
             self.client.reset();
             self.given = 0;
+            is_same && is_stopped
         } else {
             // The bytes of the answer are kept.
-            stands = stands || self.client.number() == 0;
+            is_same || self.client.number() == 0
+        };
+        if !stands {
+            turn.fail(PlayError::Differs);
         }
-        match stands {
-            true => Err(PlayError::Memory),
-            false => Err(PlayError::Differs),
+        turn.fail(PlayError::Memory);
+    }
+
+    /// Answers whether the client shows what a source shows, or lost its number. Where it is
+    /// served, it asks first, and is fed the response.
+    pub fn follow(
+        &mut self,
+        turn: &mut Turn<'_>,
+        source: &mut Source<UnicodeWidths>,
+        is_served: bool,
+    ) {
+        if is_served {
+            self.ask(turn);
+            self.receive(turn, source);
+            let _taken = self.give(turn, "feed", "all");
         }
+        // A client may lose its number where memory is refused.
+        let is_lost = self.client.number() == 0;
+        let shown = turn.kept(self.client.surface().full_screen());
+        let follows = is_lost || shown == turn.kept(source.surface().full_screen());
+        write!(turn, "{follows}");
     }
 }
 
-/// Adds what a call returned, unless memory was refused to it.
-pub fn push_returned<T: Debug + Drop>(
-    returned: Result<T, ClientError>,
-    out: &mut String,
-) -> Result<(), PlayError> {
-    match returned {
-        Ok(value) => write!(out, "{value:?}")?,
-        Err(ClientError::Memory) => return Err(PlayError::Memory),
-        Err(error) => write!(out, "refused: {error}")?,
+impl Turn<'_> {
+    /// Answers what a call returned, unless memory was refused to it.
+    pub fn push_returned<T: Debug + Drop>(&mut self, returned: Result<T, ClientError>) {
+        match returned {
+            Ok(value) => write!(self, "{value:?}"),
+            Err(ClientError::Memory) => self.fail(PlayError::Memory),
+            Err(error) => write!(self, "refused: {error}"),
+        }
     }
-    Ok(())
-}
 
-// The number of a source, and how many changes are due from the first one on.
-fn due_from_first(source: &Source<UnicodeWidths>) -> Result<(usize, usize), PlayError> {
-    let (number, changes) = source.surface().get_changes(1)?;
-    Ok((number, changes.len()))
+    // What a call appended to a buffer, which has to begin as it did.
+    fn appended<'b>(&mut self, bytes: &'b [u8]) -> &'b [u8] {
+        match bytes.strip_prefix(&BEFORE) {
+            Some(appended) => appended,
+            None => {
+                self.fail(PlayError::Differs);
+                &[]
+            }
+        }
+    }
+
+    // What a source shows, its number, and how many changes are due from the first one on.
+    fn state_of(&mut self, source: &Source<UnicodeWidths>) -> Option<(FullScreen, usize, usize)> {
+        let shown = self.kept(source.surface().full_screen())?;
+        let (number, changes) = self.kept(source.surface().get_changes(1))?;
+        Some((shown, number, changes.len()))
+    }
 }

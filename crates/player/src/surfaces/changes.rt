@@ -1,61 +1,60 @@
 //! Changes by the words of a line.
-use crate::attributes::attribute;
-use crate::error::PlayError;
-use crate::escapes::unescaped;
-use crate::pens::pen;
-use crate::places::position;
-use crate::shapes::{line_attribute, shape};
-use crate::words::{color, first, given};
-use std::alloc::Global;
+use crate::turn::Turn;
 use termwiz_cell::cell::CellAttributes;
 use termwiz_cell::change::{Change, CursorVisibility};
 
-/// The change of a line, which is a name and what follows it, unless the line is another command.
-pub fn change(alloc: Global, line: &str) -> Result<Option<Change>, PlayError> {
-    let (name, rest) = line.split_once(' ').unwrap_or((line, ""));
-    let change = match name {
-        "hidden" => Change::CursorVisibility(CursorVisibility::Hidden),
-        "visible" => Change::CursorVisibility(CursorVisibility::Visible),
-        "text" => Change::Text(unescaped(alloc, rest, ' ')?),
-        "title" => Change::Title(unescaped(alloc, rest, ' ')?),
-        "pen" if rest.is_empty() => Change::AllAttributes(CellAttributes::blank()),
-        "pen" => Change::AllAttributes(pen(alloc, rest, ' ')?),
-        "set" => Change::Attribute(attribute(alloc, rest)?),
-        "move" => {
-            let (x, y) = first(rest)?;
-            let (x, y) = (position(x)?, position(y)?);
-            Change::CursorPosition { x, y }
-        }
-        "up" | "down" => scroll(name, rest)?,
-        "shape" => Change::CursorShape(shape(rest)?),
-        "color" => Change::CursorColor(color(rest)?),
-        "clear" => Change::ClearScreen(color(rest)?),
-        "eol" => Change::ClearToEndOfLine(color(rest)?),
-        "eos" => Change::ClearToEndOfScreen(color(rest)?),
-        "row" => Change::LineAttribute(line_attribute(rest)?),
-        _ => return Ok(None),
-    };
-    Ok(Some(change))
-}
+impl Turn<'_> {
+    /// The change of this name, by the words that follow it, unless the name is no change's.
+    pub fn change(&mut self, name: &str) -> Option<Change> {
+        let change = match name {
+            "hidden" => Change::CursorVisibility(CursorVisibility::Hidden),
+            "visible" => Change::CursorVisibility(CursorVisibility::Visible),
+            "text" | "title" | "pen" | "set" => self.rest_change(name),
+            "move" => {
+                let x = self.position();
+                let y = self.position();
+                Change::CursorPosition { x, y }
+            }
+            "up" | "down" => self.scroll(name),
+            "shape" => Change::CursorShape(self.shape()),
+            "color" => Change::CursorColor(self.color()),
+            "clear" => Change::ClearScreen(self.color()),
+            "eol" => Change::ClearToEndOfLine(self.color()),
+            "eos" => Change::ClearToEndOfScreen(self.color()),
+            "row" => Change::LineAttribute(self.line_attribute()),
+            _ => return None,
+        };
+        Some(change)
+    }
 
-// A scroll up or down of a region, by its first row, its size and a count.
-fn scroll(name: &str, rest: &str) -> Result<Change, PlayError> {
-    let (first_row, rest) = first(rest)?;
-    let (region_size, scroll_count) = first(rest)?;
-    let first_row = given(first_row)?;
-    let region_size = given(region_size)?;
-    let scroll_count = given(scroll_count)?;
-    if name == "up" {
-        Ok(Change::ScrollRegionUp {
-            first_row,
-            region_size,
-            scroll_count,
-        })
-    } else {
-        Ok(Change::ScrollRegionDown {
-            first_row,
-            region_size,
-            scroll_count,
-        })
+    // The change of a name that all words are about.
+    fn rest_change(&mut self, name: &str) -> Change {
+        let words = self.rest();
+        match name {
+            "text" => Change::Text(self.unescaped(words, ' ')),
+            "title" => Change::Title(self.unescaped(words, ' ')),
+            "set" => Change::Attribute(self.attribute_of(words)),
+            _ if words.is_empty() => Change::AllAttributes(CellAttributes::blank()),
+            _ => Change::AllAttributes(self.pen_of(words, ' ')),
+        }
+    }
+
+    // A scroll up or down of a region, by its first row, its size and a count.
+    fn scroll(&mut self, name: &str) -> Change {
+        let first_row = self.number();
+        let (region_size, scroll_count) = self.pair();
+        if name == "up" {
+            Change::ScrollRegionUp {
+                first_row,
+                region_size,
+                scroll_count,
+            }
+        } else {
+            Change::ScrollRegionDown {
+                first_row,
+                region_size,
+                scroll_count,
+            }
+        }
     }
 }

@@ -1,8 +1,6 @@
 //! Lists of changes that are made on a surface, logged or not, and the lines that they scroll off.
-use crate::error::PlayError;
 use crate::surfaces::measure::Measure;
-use crate::words::given;
-use std::alloc::Global;
+use crate::turn::Turn;
 use termwiz_cell::change::{Change, SequenceNo};
 use termwiz_line::line::line::Line;
 use termwiz_surface::Scrollback;
@@ -10,45 +8,72 @@ use termwiz_surface::surface::{LentChange, Surface, SurfaceError};
 
 /// Makes the changes, logged or not, and keeps what they scroll off where there is a scrollback.
 pub fn make_list(
-    alloc: Global,
+    turn: &mut Turn<'_>,
     surface: &mut Surface<Measure>,
-    list: &Vec<Change>,
+    list: Vec<Change>,
     logged: bool,
     scrollback: &mut Option<Scrollback>,
-) -> Result<Result<SequenceNo, SurfaceError>, PlayError> {
+) -> Option<Result<SequenceNo, SurfaceError>> {
     if logged {
-        let list = list.clone()?;
-        return Ok(match scrollback {
+        return Some(match scrollback {
             Some(scrollback) => surface.add_changes_scrolling(list, scrollback),
             None => surface.add_changes(list),
         });
     }
-    let lent = lent(alloc, list.as_slice())?;
-    Ok(match scrollback {
+    let lent = lent(turn, list.as_slice());
+    if turn.has_failed() {
+        return None;
+    }
+    Some(match scrollback {
         Some(scrollback) => surface.add_unlogged_scrolling(lent.as_slice(), scrollback),
         None => surface.add_unlogged(lent.as_slice()),
     })
 }
 
 // The changes with texts and titles that are lent.
-fn lent(alloc: Global, list: &[Change]) -> Result<Vec<LentChange<'_>>, PlayError> {
-    let mut lent = Vec::new(alloc);
+fn lent<'a>(turn: &mut Turn<'_>, list: &'a [Change]) -> Vec<LentChange<'a>> {
+    let mut lent = Vec::new(turn.alloc);
     for change in list {
-        lent.push(match change {
+        let made = match change {
             Change::Text(text) => LentChange::Text(text.as_str()),
             Change::Title(title) => LentChange::Title(title.as_str()),
-            other => LentChange::Owned(other.clone()?),
-        })?;
+            other => match turn.kept(other.clone()) {
+                Some(other) => LentChange::Owned(other),
+                None => return lent,
+            },
+        };
+        turn.note(lent.push(made));
     }
-    Ok(lent)
+    lent
 }
 
-/// A scrollback of blank lines of these widths.
-pub fn blank_lines(alloc: Global, widths: &[&str]) -> Result<Scrollback, PlayError> {
-    let mut scrollback = Scrollback::new(alloc);
-    for width in widths {
-        let line = Line::with_width(alloc, given(width)?, 1)?;
-        scrollback.lines.push_back(line)?;
+/// Answers the lines that are kept, each with whether it is double wide, or how many are spare.
+pub fn push_scrollback(turn: &mut Turn<'_>, scrollback: &Scrollback, name: &str) {
+    if name == "spare" {
+        return write!(turn, "{}", scrollback.spare_lines());
     }
-    Ok(scrollback)
+    for line in &scrollback.lines {
+        let size = if line.is_double_width() {
+            ", double wide"
+        } else {
+            ""
+        };
+        if let Some(text) = turn.kept(line.as_str()) {
+            writeln!(turn, "|{text}| {} columns{size}", line.len());
+        }
+    }
+}
+
+/// Keeps blank lines of the widths that the words write, in place of all others.
+pub fn keep_blank_lines(turn: &mut Turn<'_>, kept: &mut Option<Scrollback>) {
+    let mut scrollback = Scrollback::new(turn.alloc);
+    for width in turn.rest().split_terminator(' ') {
+        let width = turn.number_of(width);
+        if let Some(line) = turn.kept(Line::with_width(turn.alloc, width, 1)) {
+            turn.note(scrollback.lines.push_back(line));
+        }
+    }
+    if !turn.has_failed() {
+        *kept = Some(scrollback);
+    }
 }

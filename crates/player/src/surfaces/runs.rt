@@ -6,7 +6,7 @@ use crate::error::PlayError;
 use crate::surfaces::answers::{push_changes, push_full, push_rows};
 use crate::surfaces::measure::Measure;
 use crate::surfaces::sizes::{MOST, measured_size};
-use std::alloc::Global;
+use crate::turn::Turn;
 use std::mem;
 use termwiz_surface::view::{self, Event, Outcome, run_full};
 
@@ -23,52 +23,48 @@ fn are_in_range(events: &[Event<Measure>]) -> bool
     true
 }
 
-/// What comes of the events, each on lines of its own, on a surface of this size, which is a full
-/// one or not. None are left.
-pub fn run(
-    alloc: Global,
-    size: &[&str],
-    full: bool,
-    events: &mut Vec<Event<Measure>>,
-    out: &mut String,
-) -> Result<(), PlayError> {
-    let (width, height, measure) = measured_size(size)?;
-    let events = mem::replace(events, Vec::new(alloc));
+/// What comes of the events, each on lines of its own, on a surface of the size that the words
+/// write, which is a full one or not. None are left.
+pub fn run(turn: &mut Turn<'_>, full: bool, events: &mut Vec<Event<Measure>>) {
+    let Some((width, height, measure)) = measured_size(turn) else {
+        return;
+    };
+    let events = mem::replace(events, Vec::new(turn.alloc));
     if !are_in_range(events.as_slice()) {
-        return Err(PlayError::Bad);
+        return turn.fail(PlayError::Bad);
     }
     let outcomes = if full {
-        run_full(alloc, measure, width, height, events)?
+        run_full(turn.alloc, measure, width, height, events)
     } else {
-        view::run(alloc, measure, width, height, events)?
+        view::run(turn.alloc, measure, width, height, events)
     };
-    for outcome in &outcomes {
-        push_outcome(outcome, out)?;
+    if let Some(outcomes) = turn.kept(outcomes) {
+        for outcome in &outcomes {
+            push_outcome(turn, outcome);
+        }
     }
-    Ok(())
 }
 
-fn push_outcome(outcome: &Outcome, out: &mut String) -> Result<(), PlayError> {
+fn push_outcome(turn: &mut Turn<'_>, outcome: &Outcome) {
     match outcome {
-        Outcome::Answered(number) => writeln!(out, "= {number}")?,
-        Outcome::Done => out.push_str("done\n")?,
-        Outcome::Refused(error) => writeln!(out, "refused: {error}")?,
-        Outcome::Shown(rows, cursor) => push_rows(rows.as_str(), *cursor, out)?,
+        Outcome::Answered(number) => writeln!(turn, "= {number}"),
+        Outcome::Done => turn.push_str("done\n"),
+        Outcome::Refused(error) => writeln!(turn, "refused: {error}"),
+        Outcome::Shown(rows, cursor) => push_rows(turn, rows.as_str(), *cursor),
         Outcome::Asked(number, changes) => {
-            writeln!(out, "asked {number}, {} changes", changes.len())?;
-            push_changes(changes.as_slice(), out)?;
+            writeln!(turn, "asked {number}, {} changes", changes.len());
+            push_changes(turn, changes.as_slice());
         }
         Outcome::Followed(number, changes, screen) => {
             let (x, y) = screen.cursor;
-            writeln!(out, "followed {number}, {} changes", changes.len())?;
-            push_changes(changes.as_slice(), out)?;
-            writeln!(out, "at {x} {y}")?;
+            writeln!(turn, "followed {number}, {} changes", changes.len());
+            push_changes(turn, changes.as_slice());
+            writeln!(turn, "at {x} {y}");
         }
         Outcome::FollowedFull(number, changes, full) => {
-            writeln!(out, "followed {number}, {} changes", changes.len())?;
-            push_changes(changes.as_slice(), out)?;
-            push_full(full, out)?;
+            writeln!(turn, "followed {number}, {} changes", changes.len());
+            push_changes(turn, changes.as_slice());
+            push_full(turn, full);
         }
     }
-    Ok(())
 }

@@ -1,17 +1,15 @@
 //! The surfaces of a case, and what the lines do with them.
 use crate::error::PlayError;
-use crate::escapes::unescaped;
 use crate::play::Play;
 use crate::surfaces::answers::{answer, is_same, push_changes, push_made, push_refused};
-use crate::surfaces::changes::change;
-use crate::surfaces::lists::{blank_lines, make_list};
+use crate::surfaces::lists::{keep_blank_lines, make_list, push_scrollback};
 use crate::surfaces::measure::Measure;
 use crate::surfaces::refusals::is_left;
 use crate::surfaces::runs::run;
 use crate::surfaces::sequences::Sequence;
-use crate::surfaces::sizes::{checked_size, measured_size, region};
+use crate::surfaces::sizes::{checked_size, measured_size};
 use crate::surfaces::tables::{diffs, regions};
-use crate::words::{given, pair};
+use crate::turn::Turn;
 use std::alloc::Global;
 use termwiz_cell::cell::{Cell, CellAttributes};
 use termwiz_cell::change::{Change, SequenceError, SequenceNo};
@@ -30,7 +28,6 @@ enum Shown {
 /// What a case has.
 #[derive(Drop)]
 pub struct Stage {
-    alloc: Global,
     surfaces: Vec<Surface<Measure>>,
     viewers: Vec<Viewer<Measure>>,
     shown: Shown,
@@ -46,23 +43,18 @@ pub struct Stage {
 }
 
 impl Play for Stage {
-    fn line(&mut self, line: &str) -> Result<String, PlayError> {
-        let mut out = String::new(self.alloc);
-        match change(self.alloc, line)? {
-            Some(change) => self.add(change, &mut out)?,
-            None => {
-                let words: Vec<&str> = line.split(' ').collect(self.alloc)?;
-                self.command(words.as_slice(), &mut out)?;
-            }
+    fn line(&mut self, turn: &mut Turn<'_>) {
+        let name = turn.word();
+        match turn.change(name) {
+            Some(change) => self.add(turn, change),
+            None => self.command(turn, name),
         }
-        Ok(out)
     }
 }
 
 impl Stage {
     pub fn new(alloc: Global) -> Stage {
         Stage {
-            alloc,
             surfaces: Vec::new(alloc),
             viewers: Vec::new(alloc),
             shown: Shown::Surface(0),
@@ -75,313 +67,366 @@ impl Stage {
     }
 
     // Changes what a case has, and what its lines are about.
-    fn command(&mut self, words: &[&str], out: &mut String) -> Result<(), PlayError> {
-        match words {
-            ["case", ..] => *self = Stage::new(self.alloc),
-            ["new", size @ ..] => self.make(size, false)?,
-            ["new-full", size @ ..] => self.make(size, true)?,
-            ["clone"] => {
-                let clone = self.own()?.clone()?;
-                self.surfaces.push(clone)?;
+    fn command(&mut self, turn: &mut Turn<'_>, name: &str) {
+        match name {
+            "case" => *self = Stage::new(turn.alloc),
+            "new" => self.make(turn, false),
+            "new-full" => self.make(turn, true),
+            "clone" => {
+                if let Some(clone) = self.own_clone(turn) {
+                    turn.note(self.surfaces.push(clone));
+                }
             }
-            ["viewer"] => {
-                let viewer = Viewer::new(self.alloc, self.own()?)?;
-                write!(out, "last {}", viewer.last())?;
-                self.viewers.push(viewer)?;
+            "viewer" => {
+                let Some(own) = self.own(turn) else { return };
+                if let Some(viewer) = turn.kept(Viewer::new(turn.alloc, own)) {
+                    write!(turn, "last {}", viewer.last());
+                    turn.note(self.viewers.push(viewer));
+                }
             }
-            ["on", number] => self.shown = Shown::Surface(given(number)?),
-            ["view", number] => self.shown = Shown::Viewer(given(number)?),
-            ["sequence", size @ ..] => {
-                self.sequence = Some(Sequence::new(self.alloc, measured_size(size)?)?);
+            "on" => self.shown = Shown::Surface(turn.number()),
+            "view" => self.shown = Shown::Viewer(turn.number()),
+            "sequence" => {
+                if let Some(size) = measured_size(turn) {
+                    self.sequence = Sequence::new(turn, size);
+                }
             }
-            ["list"] => self.list = Some(Vec::new(self.alloc)),
-            ["keep", widths @ ..] => self.scrollback = Some(blank_lines(self.alloc, widths)?),
-            ["event", words @ ..] => {
-                let event = self.event(words)?;
-                self.events.push(event)?;
-            }
-            _ => self.call(words, out)?,
+            "list" => self.list = Some(Vec::new(turn.alloc)),
+            "keep" => keep_blank_lines(turn, &mut self.scrollback),
+            "event" => self.add_event(turn),
+            _ => self.call(turn, name),
         }
-        Ok(())
     }
 
     // Changes a surface, a viewer or a sequence.
-    fn call(&mut self, words: &[&str], out: &mut String) -> Result<(), PlayError> {
-        match words {
-            ["end"] => self.end_list(true, out),
-            ["unlogged"] => self.end_list(false, out),
-            ["repeat", count, text] => self.repeat(given(count)?, text, out),
-            ["newest", count] => {
-                let count = given(count)?;
-                let scrollback = self.scrollback.as_mut().ok_or(PlayError::Bad)?;
-                scrollback.remove_first(scrollback.len().saturating_sub(count));
-                Ok(())
+    fn call(&mut self, turn: &mut Turn<'_>, name: &str) {
+        match name {
+            "end" => self.end_list(turn, true),
+            "unlogged" => self.end_list(turn, false),
+            "newest" => {
+                let count = turn.number();
+                if let Some(scrollback) = turn.found(self.scrollback.as_mut()) {
+                    scrollback.remove_first(scrollback.len().saturating_sub(count));
+                }
             }
-            ["resize", width, height] => {
-                let (width, height) = pair(width, height)?;
-                let (width, height) = checked_size(width, height)?;
-                let made = self.own_mut()?.resize(width, height);
-                push_refused(made, SurfaceError::Memory, out)
+            "repeat" | "resize" | "flush" => self.change_own(turn, name),
+            "draw" | "copy" | "draw-region" => self.draw(turn, name),
+            "lead" => self.lead(turn),
+            "follow" => self.follow(turn),
+            "goto" | "place" => {
+                if let Some(sequence) = turn.found(self.sequence.as_mut()) {
+                    sequence.answer(turn, name);
+                }
             }
-            ["flush", seq] => {
-                let seq = given(seq)?;
-                self.own_mut()?.flush_changes_older_than(seq);
-                Ok(())
-            }
-            ["draw", ..] | ["copy", ..] | ["draw-region", ..] => self.draw(words, out),
-            ["lead", number, seq] => self.lead(given(number)?, given(seq)?, out),
-            ["follow", number] => self.follow(given(number)?, out),
-            ["goto", ..] | ["place"] => {
-                let sequence = self.sequence.as_mut().ok_or(PlayError::Bad)?;
-                sequence.answer(words, out)
-            }
-            ["consume"] => {
+            "consume" => {
                 if let Some(sequence) = self.sequence.take() {
                     self.consumed = sequence.changes.consume();
                 }
-                push_changes(self.consumed.as_slice(), out)
+                push_changes(turn, self.consumed.as_slice());
             }
-            ["run", size @ ..] => run(self.alloc, size, false, &mut self.events, out),
-            ["run-full", size @ ..] => run(self.alloc, size, true, &mut self.events, out),
-            _ => self.ask(words, out),
+            "run" => run(turn, false, &mut self.events),
+            "run-full" => run(turn, true, &mut self.events),
+            _ => self.ask(turn, name),
         }
     }
 
     // Answers a question, and changes nothing.
-    fn ask(&self, words: &[&str], out: &mut String) -> Result<(), PlayError> {
-        match words {
-            ["same", number] => {
-                let same = is_same(self.own()?, self.other(number)?, false)?;
-                write!(out, "{same}")?;
+    fn ask(&self, turn: &mut Turn<'_>, name: &str) {
+        match name {
+            "same" | "full-same" | "diff" | "diff-region" | "diff-regions" => {
+                self.compare(turn, name);
             }
-            ["full-same", number] => {
-                let same = is_same(self.own()?, self.other(number)?, true)?;
-                write!(out, "{same}")?;
-            }
-            ["diff", number] => {
-                let changes = self.own()?.diff_screens(self.other(number)?)?;
-                push_changes(changes.as_slice(), out)?;
-            }
-            ["diff-region", place @ .., number, x, y] => {
-                let ((from, size), (x, y)) = (region(place)?, pair(x, y)?);
-                let (own, other) = (self.own()?, self.other(number)?);
-                let changes = own.diff_region(from.0, from.1, size.0, size.1, other, x, y)?;
-                push_changes(changes.as_slice(), out)?;
-            }
-            ["diffs"] => diffs(self.surfaces.as_slice(), out)?,
-            ["diff-regions", number, width, height] => {
-                regions(self.own()?, self.other(number)?, pair(width, height)?, out)?;
-            }
-            ["lines"] => {
-                let scrollback = self.scrollback.as_ref().ok_or(PlayError::Bad)?;
-                for line in &scrollback.lines {
-                    writeln!(out, "|{}| {} columns", line.as_str()?, line.len())?;
+            "diffs" => diffs(turn, self.surfaces.as_slice()),
+            "lines" | "spare" => {
+                if let Some(scrollback) = turn.found(self.scrollback.as_ref()) {
+                    push_scrollback(turn, scrollback, name);
                 }
             }
-            ["refusals"] => {
-                for error in [
-                    SurfaceError::ScrollRegion,
-                    SurfaceError::Numbers,
-                    SurfaceError::Memory,
-                ] {
-                    writeln!(out, "{error}")?;
+            "refusals" => {
+                let (region, numbers) = (SurfaceError::ScrollRegion, SurfaceError::Numbers);
+                writeln!(turn, "{region}\n{numbers}\n{}", SurfaceError::Memory);
+            }
+            "sequence-refusals" => {
+                writeln!(turn, "{}\n{}", SequenceError::Range, SequenceError::Memory);
+            }
+            "cell" => push_cell(turn),
+            _ => {
+                if let Some(own) = self.own(turn) {
+                    answer(turn, own, name);
                 }
             }
-            ["sequence-refusals"] => {
-                for error in [SequenceError::Range, SequenceError::Memory] {
-                    writeln!(out, "{error}")?;
-                }
-            }
-            ["cell", texts @ ..] => {
-                let text = unescaped(self.alloc, texts.first().unwrap_or(&""), ' ')?;
-                let pen = CellAttributes::blank();
-                let cell = Cell::new_grapheme(
-                    self.alloc,
-                    &UnicodeWidths,
-                    text.as_str(),
-                    pen,
-                    None,
-                )?;
-                write!(out, "{:?}, {} columns", cell.str(), cell.width())?;
-            }
-            _ => answer(self.alloc, self.own()?, words, out)?,
         }
-        Ok(())
+    }
+
+    // Whether this surface and another one are the same, or the changes that lead from it to that.
+    fn compare(&self, turn: &mut Turn<'_>, name: &str) {
+        let Some(own) = self.own(turn) else { return };
+        let ((x, y), (width, height)) = if name == "diff-region" {
+            (turn.pair(), turn.pair())
+        } else {
+            ((0, 0), (0, 0))
+        };
+        let Some(to) = self.other(turn) else { return };
+        let made = match name {
+            "diff" => own.diff_screens(to),
+            "diff-region" => {
+                let (to_x, to_y) = turn.pair();
+                own.diff_region(x, y, width, height, to, to_x, to_y)
+            }
+            "diff-regions" => return regions(turn, own, to),
+            _ => {
+                let same = is_same(turn, own, to, name == "full-same");
+                return write!(turn, "{same}");
+            }
+        };
+        if let Some(changes) = turn.kept(made) {
+            push_changes(turn, changes.as_slice());
+        }
     }
 
     // The surface that the lines are about, or that of the viewer.
-    fn own(&self) -> Result<&Surface<Measure>, PlayError> {
+    fn own(&self, turn: &mut Turn<'_>) -> Option<&Surface<Measure>> {
         match self.shown {
-            Shown::Surface(number) => self.surfaces.get(number).ok_or(PlayError::Bad),
+            Shown::Surface(number) => turn.found(self.surfaces.get(number)),
             Shown::Viewer(number) => {
-                let viewer = self.viewers.get(number).ok_or(PlayError::Bad)?;
-                Ok(viewer.surface())
+                let viewer = turn.found(self.viewers.get(number))?;
+                Some(viewer.surface())
             }
         }
     }
 
-    fn own_mut(&mut self) -> Result<&mut Surface<Measure>, PlayError> {
+    // A clone of that surface.
+    fn own_clone(&self, turn: &mut Turn<'_>) -> Option<Surface<Measure>> {
+        let own = self.own(turn)?;
+        turn.kept(own.clone())
+    }
+
+    // The surface that the lines are about, to be changed.
+    fn target(&mut self, turn: &mut Turn<'_>) -> Option<&mut Surface<Measure>> {
         match self.shown {
-            Shown::Surface(number) => self.surfaces.get_mut(number).ok_or(PlayError::Bad),
-            Shown::Viewer(_) => Err(PlayError::Bad),
+            Shown::Surface(number) => turn.found(self.surfaces.get_mut(number)),
+            Shown::Viewer(_) => turn.found(None),
         }
     }
 
-    fn other(&self, word: &str) -> Result<&Surface<Measure>, PlayError> {
-        self.surfaces.get(given(word)?).ok_or(PlayError::Bad)
+    // The surface whose number the next word writes.
+    fn other(&self, turn: &mut Turn<'_>) -> Option<&Surface<Measure>> {
+        let number = turn.number();
+        turn.found(self.surfaces.get(number))
     }
 
     // A new surface, which the coming lines are about.
-    fn make(&mut self, size: &[&str], full: bool) -> Result<(), PlayError> {
-        let (width, height, measure) = measured_size(size)?;
-        let surface = if full {
-            Surface::new_full(self.alloc, width, height, measure)?
-        } else {
-            Surface::new(self.alloc, width, height, measure)?
+    fn make(&mut self, turn: &mut Turn<'_>, full: bool) {
+        let Some((width, height, measure)) = measured_size(turn) else {
+            return;
         };
-        let number = self.surfaces.len();
-        self.surfaces.push(surface)?;
-        self.shown = Shown::Surface(number);
-        Ok(())
+        let made = if full {
+            Surface::new_full(turn.alloc, width, height, measure)
+        } else {
+            Surface::new(turn.alloc, width, height, measure)
+        };
+        if let Some(surface) = turn.kept(made) {
+            let number = self.surfaces.len();
+            turn.note(self.surfaces.push(surface));
+            if !turn.has_failed() {
+                self.shown = Shown::Surface(number);
+            }
+        }
     }
 
-    fn event(&mut self, words: &[&str]) -> Result<Event<Measure>, PlayError> {
-        match words {
-            ["end"] => Ok(Event::Changes(self.list.take().ok_or(PlayError::Bad)?)),
-            ["draw", number, x, y] => {
-                let (x, y) = pair(x, y)?;
-                Ok(Event::Draw(self.other(number)?.clone()?, x, y))
+    // An event of the coming run.
+    fn add_event(&mut self, turn: &mut Turn<'_>) {
+        let event = match turn.word() {
+            "end" => match self.list.take() {
+                Some(list) => Event::Changes(list),
+                None => return turn.fail(PlayError::Bad),
+            },
+            "draw" => {
+                let Some(from) = self.other(turn) else { return };
+                let clone = turn.kept(from.clone());
+                let Some(clone) = clone else { return };
+                let (x, y) = turn.pair();
+                Event::Draw(clone, x, y)
             }
-            ["copy", place @ .., x, y] => {
-                let ((from, size), (x, y)) = (region(place)?, pair(x, y)?);
-                Ok(Event::Copy(from.0, from.1, size.0, size.1, x, y))
+            "copy" => {
+                let ((x, y), (width, height)) = (turn.pair(), turn.pair());
+                let (to_x, to_y) = turn.pair();
+                Event::Copy(x, y, width, height, to_x, to_y)
             }
-            ["resize", width, height] => Ok(Event::Resize(given(width)?, given(height)?)),
-            ["flush", seq] => Ok(Event::Flush(given(seq)?)),
-            ["ask", seq] => Ok(Event::Ask(given(seq)?)),
-            ["follow"] => Ok(Event::Follow),
-            ["rows"] => Ok(Event::Show),
-            _ => Err(PlayError::Bad),
-        }
+            "resize" => Event::Resize(turn.number(), turn.number()),
+            "flush" => Event::Flush(turn.number()),
+            "ask" => Event::Ask(turn.number()),
+            "follow" => Event::Follow,
+            "rows" => Event::Show,
+            _ => return turn.fail(PlayError::Bad),
+        };
+        turn.note(self.events.push(event));
     }
 
     // Adds a change to the list, to the sequence or to the surface.
-    fn add(&mut self, change: Change, out: &mut String) -> Result<(), PlayError> {
+    fn add(&mut self, turn: &mut Turn<'_>, change: Change) {
+        if turn.has_failed() {
+            return;
+        }
         if let Some(list) = &mut self.list {
-            return Ok(list.push(change)?);
+            return turn.note(list.push(change));
         }
         if let Some(sequence) = &mut self.sequence {
             let made = sequence.changes.add(change);
-            return push_refused(made, SequenceError::Memory, out);
+            return push_refused(turn, made, SequenceError::Memory);
         }
-        let mut next = self.own()?.clone()?;
-        let made = next.add_change(change);
-        self.put(next, made, false, out)
+        if let Some(mut next) = self.own_clone(turn) {
+            let made = next.add_change(change);
+            self.put(turn, next, made, false);
+        }
     }
 
     // The surface is the next one from now on, on which a list of changes was made, that of a draw
     // or a copy or another one, unless memory was refused to it.
     fn put(
         &mut self,
+        turn: &mut Turn<'_>,
         next: Surface<Measure>,
         made: Result<SequenceNo, SurfaceError>,
         copied: bool,
-        out: &mut String,
-    ) -> Result<(), PlayError> {
+    ) {
+        let Some(own) = self.target(turn) else { return };
         let refused = matches!(&made, Err(SurfaceError::Memory));
-        if refused && !is_left(self.alloc, self.own()?, &next, copied)? {
-            return Err(PlayError::Differs);
+        if refused && !is_left(turn, own, &next, copied) {
+            turn.fail(PlayError::Differs);
         }
-        push_made(made, out)?;
-        *self.own_mut()? = next;
-        Ok(())
+        push_made(turn, made);
+        if !turn.has_failed() {
+            *own = next;
+        }
     }
 
     // Makes the changes of the list, which stays until they are made. Where they aren't, the lines
     // that they scrolled off a surface go.
-    fn end_list(&mut self, logged: bool, out: &mut String) -> Result<(), PlayError> {
-        let list = self.list.as_ref().ok_or(PlayError::Bad)?.clone()?;
+    fn end_list(&mut self, turn: &mut Turn<'_>, logged: bool) {
+        let Some(list) = turn.found(self.list.as_ref()) else {
+            return;
+        };
+        let Some(list) = turn.kept(list.clone()) else {
+            return;
+        };
         if let Some(sequence) = &mut self.sequence {
-            sequence.add_changes(self.alloc, list, out)?;
-            self.list = None;
-            return Ok(());
-        }
-        let mut next = self.own()?.clone()?;
-        let count = self
-            .scrollback
-            .as_ref()
-            .map_or(0, |scrollback| scrollback.len());
-        let made = make_list(self.alloc, &mut next, &list, logged, &mut self.scrollback)?;
-        let put = self.put(next, made, false, out);
-        if let (Some(scrollback), Err(_)) = (&mut self.scrollback, &put) {
-            scrollback.lines.truncate(count);
-        }
-        put?;
-        self.list = None;
-        Ok(())
-    }
-
-    // Prints a text again and again.
-    fn repeat(&mut self, count: usize, text: &str, out: &mut String) -> Result<(), PlayError> {
-        let alloc = self.alloc;
-        let text = unescaped(alloc, text, ' ')?;
-        let surface = self.own_mut()?;
-        for _ in 0..count {
-            let change = Change::text_from(alloc, text.as_str())?;
-            if surface.add_change(change).is_err() {
-                return Err(PlayError::Memory);
+            sequence.add_changes(turn, list);
+        } else if let Some(mut next) = self.own_clone(turn) {
+            let count = self
+                .scrollback
+                .as_ref()
+                .map_or(0, |scrollback| scrollback.len());
+            let made = make_list(turn, &mut next, list, logged, &mut self.scrollback);
+            if let Some(made) = made {
+                self.put(turn, next, made, false);
+            }
+            if let (Some(scrollback), true) = (&mut self.scrollback, turn.has_failed()) {
+                scrollback.lines.truncate(count);
             }
         }
-        Ok(write!(out, "{}", surface.current_seqno())?)
+        if !turn.has_failed() {
+            self.list = None;
+        }
+    }
+
+    // Prints a text again and again on this surface, resizes it, or cuts its log.
+    fn change_own(&mut self, turn: &mut Turn<'_>, name: &str) {
+        let number = turn.number();
+        let Some(own) = self.target(turn) else { return };
+        match name {
+            "repeat" => repeat(turn, own, number),
+            "flush" => own.flush_changes_older_than(number),
+            _ => {
+                let height = turn.number();
+                if let Some((width, height)) = checked_size(turn, number, height) {
+                    push_refused(turn, own.resize(width, height), SurfaceError::Memory);
+                }
+            }
+        }
     }
 
     // Draws another surface or a region on this surface, or copies a region.
-    fn draw(&mut self, words: &[&str], out: &mut String) -> Result<(), PlayError> {
-        let [name, place @ .., x, y] = words else {
-            return Err(PlayError::Bad);
-        };
-        let (x, y) = pair(x, y)?;
-        if let [number] = place {
-            let mut next = self.own()?.clone()?;
-            let made = next.draw_from_screen(self.other(number)?, x, y);
-            return self.put(next, made, true, out);
-        }
-        let (from, size) = region(place)?;
-        let mut next = self.own()?.clone()?;
-        let made = if *name == "copy" {
-            next.copy_region(from.0, from.1, size.0, size.1, x, y)
+    fn draw(&mut self, turn: &mut Turn<'_>, name: &str) {
+        let next = self.own_clone(turn);
+        let Some(mut next) = next else { return };
+        let made = if name == "draw" {
+            let Some(from) = self.other(turn) else { return };
+            let (x, y) = turn.pair();
+            next.draw_from_screen(from, x, y)
         } else {
-            next.draw_region(from.0, from.1, size.0, size.1, x, y)
+            let ((x, y), (width, height)) = (turn.pair(), turn.pair());
+            let (to_x, to_y) = turn.pair();
+            if name == "copy" {
+                next.copy_region(x, y, width, height, to_x, to_y)
+            } else {
+                next.draw_region(x, y, width, height, to_x, to_y)
+            }
         };
-        self.put(next, made, true, out)
+        self.put(turn, next, made, true);
     }
 
     // Another surface makes what is due from a number on.
-    fn lead(&mut self, number: usize, seq: SequenceNo, out: &mut String) -> Result<(), PlayError> {
-        let (next, changes) = self.own()?.get_changes(seq)?;
-        let changes = changes.into_owned(self.alloc)?;
-        let other = self.surfaces.get_mut(number).ok_or(PlayError::Bad)?;
-        push_made(other.add_changes(changes).map(|_| next), out)
+    fn lead(&mut self, turn: &mut Turn<'_>) {
+        let (number, seq) = turn.pair();
+        let Some(own) = self.own(turn) else { return };
+        let due = turn.kept(own.get_changes(seq));
+        let Some((next, changes)) = due else { return };
+        let changes = turn.kept(changes.into_owned(turn.alloc));
+        let other = turn.found(self.surfaces.get_mut(number));
+        if let (Some(changes), Some(other)) = (changes, other) {
+            push_made(turn, other.add_changes(changes).map(|_| next));
+        }
     }
 
     // A viewer follows this surface: what it returned, its last number, the surface's, and whether
     // both show the same, of a full surface all that it carries.
-    fn follow(&mut self, number: usize, out: &mut String) -> Result<(), PlayError> {
-        let source = self.own()?.clone()?;
-        let viewer = self.viewers.get_mut(number).ok_or(PlayError::Bad)?;
+    fn follow(&mut self, turn: &mut Turn<'_>) {
+        let number = turn.number();
+        let source = self.own_clone(turn);
+        let viewer = turn.found(self.viewers.get_mut(number));
+        let (Some(source), Some(viewer)) = (source, viewer) else {
+            return;
+        };
         match viewer.follow(&source) {
             Ok(answer) => {
-                let same = is_same(viewer.surface(), &source, source.is_full())?;
+                let same = is_same(turn, viewer.surface(), &source, source.is_full());
                 let (last, number) = (viewer.last(), source.current_seqno());
                 write!(
-                    out,
+                    turn,
                     "= {answer}, last {last}, of {number}, shows the same: {same}"
-                )?;
-                Ok(())
+                );
             }
             // It has no number then.
-            Err(SurfaceError::Memory) if viewer.last() != 0 => Err(PlayError::Differs),
-            Err(error) => push_made(Err(error), out),
+            Err(SurfaceError::Memory) if viewer.last() != 0 => turn.fail(PlayError::Differs),
+            Err(error) => push_made(turn, Err(error)),
         }
+    }
+}
+
+// Prints a text again and again, and answers the number then.
+fn repeat(turn: &mut Turn<'_>, surface: &mut Surface<Measure>, count: usize) {
+    let word = turn.word();
+    let text = turn.unescaped(word, ' ');
+    for _ in 0..count {
+        if turn.has_failed() {
+            return;
+        }
+        if let Some(change) = turn.kept(Change::text_from(turn.alloc, text.as_str())) {
+            if surface.add_change(change).is_err() {
+                turn.fail(PlayError::Memory);
+            }
+        }
+    }
+    write!(turn, "{}", surface.current_seqno());
+}
+
+// The text and the width of a cell of one grapheme.
+fn push_cell(turn: &mut Turn<'_>) {
+    let words = turn.rest();
+    let (text, pen) = (turn.unescaped(words, ' '), CellAttributes::blank());
+    let made = Cell::new_grapheme(turn.alloc, &UnicodeWidths, text.as_str(), pen, None);
+    if let Some(cell) = turn.kept(made) {
+        write!(turn, "{:?}, {} columns", cell.str(), cell.width());
     }
 }

@@ -79,6 +79,7 @@ pub mod hyperlink;
 mod lines;
 mod listed;
 mod recording;
+pub mod render;
 mod rows;
 mod screen;
 mod sequence;

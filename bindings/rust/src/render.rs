@@ -1,0 +1,391 @@
+//! Shows screens on a terminal: changes, or what a screen shows, become escape sequences.
+//!
+//! A [`Renderer`] keeps what the terminal shows, and the state that it is in: its cursor, pen,
+//! link, title, and the cursor's shape, colour and visibility. It writes what the terminal lacks,
+//! by few bytes: the shortest of moves, what differs of a pen, erased blanks, and scrolls of rows
+//! that are still to be seen.
+//!
+//! ```
+//! use tikeburo::render::{Options, Renderer};
+//! use tikeburo::Surface;
+//!
+//! let mut surface = Surface::new(20, 3)?;
+//! let mut renderer = Renderer::new(Options::new(20, 3));
+//! let mut out = Vec::new(); // or the terminal, by `std::io::stdout()`
+//! surface.add_change("hello か")?;
+//! renderer.show(&mut out, &surface)?;
+//!
+//! out.clear();
+//! surface.add_change("\r\nsame screen")?;
+//! renderer.show(&mut out, &surface)?;
+//! assert_eq!(out, b"\r\nsame screen");
+//! # Ok::<(), Box<dyn std::error::Error>>(())
+//! ```
+//!
+//! # What the caller does
+//!
+//! The caller puts the terminal into its raw mode, and where it wants the alternate screen, turns
+//! to it before the first write and back after [`Renderer::end`]. The terminal's rows are those
+//! from its first one on, and its origin mode and insert mode are off, as they are by default.
+//!
+//! # Where a terminal can't show a screen
+//!
+//! - A wide text of which the last column has the first half is a blank.
+//! - A text that begins with a character of no columns, as a combining mark in a cell of its own,
+//!   stands on a space: it would join the cell before.
+//! - Texts of two cells that would be one grapheme are written with a move between.
+//! - After a text that terminals measure in two ways, such as an emoji of several characters, the
+//!   cursor is moved by its place on the screen.
+//! - Control characters are left out: of cells, titles and links.
+//! - A link to an empty uri, or to one of more than 2083 bytes as it is encoded, is none.
+//! - What a text is to a shell, and whether it is raised or lowered, isn't shown.
+//!
+//! Blanks have their background, and of their other attributes only what is seen.
+
+mod colors;
+mod error;
+mod line;
+mod moves;
+mod options;
+mod pen;
+mod rows;
+mod scrolls;
+mod sgr;
+mod terminal;
+mod texts;
+
+pub use colors::Colors;
+pub use error::Error;
+pub use options::Options;
+
+use crate::change::{CursorVisibility, LineAttribute};
+use crate::changes::Changes;
+use crate::rows::RowBuffer;
+use crate::screen::Screen;
+use crate::surface::{self, Surface};
+use line::Line;
+use std::fmt;
+use std::io::Write;
+use terminal::Terminal;
+
+/// Writes to a terminal what it lacks of a screen.
+///
+/// Each write is one call of [`Write::write_all`], and one of [`Write::flush`]. Nothing is written
+/// where the terminal lacks nothing. A new renderer takes it that the terminal may show anything,
+/// and that its cursor has its own shape and colour.
+pub struct Renderer {
+    options: Options,
+    terminal: Terminal,
+    /// What the terminal shows, where that is known.
+    lines: Option<Vec<Line>>,
+    /// What changes are made on.
+    surface: Option<Surface>,
+    buffer: RowBuffer,
+}
+
+impl Renderer {
+    /// A renderer for a terminal that has this size and knows this.
+    #[must_use]
+    pub fn new(options: Options) -> Renderer {
+        Renderer {
+            options,
+            terminal: Terminal::new(),
+            lines: None,
+            surface: None,
+            buffer: RowBuffer::new(),
+        }
+    }
+
+    /// What the terminal has.
+    #[must_use]
+    pub fn options(&self) -> &Options {
+        &self.options
+    }
+
+    /// Writes what the terminal lacks of a screen, which is cut or has blanks around it where the
+    /// terminal has another size. The first write, and one after [`Renderer::reset`] or a failure,
+    /// resets the terminal and draws all.
+    ///
+    /// # Errors
+    ///
+    /// [`Error::Write`], and [`Error::Screen`] where memory is refused. The next write begins by
+    /// a reset.
+    ///
+    /// # Examples
+    ///
+    /// ```
+    /// use tikeburo::render::{Options, Renderer};
+    /// use tikeburo::{Changes, Surface};
+    ///
+    /// let mut surface = Surface::new(20, 3)?;
+    /// let mut renderer = Renderer::new(Options::new(20, 3));
+    /// let mut out = Vec::new();
+    /// surface.add_change("one two three")?;
+    /// renderer.show(&mut out, &surface)?;
+    ///
+    /// out.clear();
+    /// surface.add(Changes::new().move_to(4, 0).italic(true).text("2  "))?;
+    /// renderer.show(&mut out, &surface)?;
+    /// assert_eq!(out, b"\x1b[9D\x1b[3m2  ");
+    /// # Ok::<(), Box<dyn std::error::Error>>(())
+    /// ```
+    pub fn show<W>(&mut self, out: &mut W, screen: &Screen) -> Result<(), Error>
+    where
+        W: Write + ?Sized,
+    {
+        let shown = self.compose(screen).and_then(|()| self.send(out));
+        if shown.is_err() {
+            self.reset();
+        }
+        shown
+    }
+
+    /// Makes changes on a surface of the renderer's own, which has the terminal's size and is
+    /// blank at first, and writes what the terminal lacks of it, as [`Renderer::show`] does.
+    /// Whoever follows another surface passes what [`Screen::read_changes`] returns, from 0 on.
+    ///
+    /// # Errors
+    ///
+    /// [`Error::Screen`]: the changes are refused, as by [`Surface::add`], and nothing has
+    /// changed; after [`Error::Memory`](crate::Error::Memory) the surface is blank again.
+    /// [`Error::Write`]: the changes are made, and the next write begins by a reset.
+    ///
+    /// # Examples
+    ///
+    /// ```
+    /// use tikeburo::render::{Options, Renderer};
+    /// use tikeburo::{Changes, ColorAttribute};
+    ///
+    /// let mut renderer = Renderer::new(Options::new(20, 3));
+    /// let mut out = Vec::new();
+    /// renderer.changes(&mut out, &Changes::new())?;
+    ///
+    /// out.clear();
+    /// let mut changes = Changes::new();
+    /// changes.move_to(2, 1).foreground(ColorAttribute::PaletteIndex(1)).text("red");
+    /// renderer.changes(&mut out, &changes)?;
+    /// assert_eq!(out, b"\n\x1b[2C\x1b[31mred");
+    /// # Ok::<(), Box<dyn std::error::Error>>(())
+    /// ```
+    pub fn changes<W>(&mut self, out: &mut W, changes: &Changes) -> Result<(), Error>
+    where
+        W: Write + ?Sized,
+    {
+        let mut surface = match self.surface.take() {
+            Some(surface) => surface,
+            None => self.new_surface()?,
+        };
+        if let Err(error) = surface.add(changes) {
+            if error != crate::Error::Memory {
+                self.surface = Some(surface);
+            }
+            return Err(error.into());
+        }
+        let shown = self.show(out, &surface);
+        self.surface = Some(surface);
+        shown
+    }
+
+    /// Resets the terminal, and draws all that a screen shows, as where something else has written
+    /// to the terminal.
+    ///
+    /// # Errors
+    ///
+    /// Those of [`Renderer::show`].
+    pub fn repaint<W>(&mut self, out: &mut W, screen: &Screen) -> Result<(), Error>
+    where
+        W: Write + ?Sized,
+    {
+        self.reset();
+        self.show(out, screen)
+    }
+
+    /// Takes it that the terminal shows the rows of this screen already. So what turns one screen
+    /// into another one is written to a terminal that this renderer hasn't drawn.
+    ///
+    /// # Errors
+    ///
+    /// [`Error::Screen`]: memory is refused, and what the terminal shows is as before.
+    ///
+    /// # Examples
+    ///
+    /// ```
+    /// use tikeburo::render::{Options, Renderer};
+    /// use tikeburo::Surface;
+    ///
+    /// let mut old = Surface::new(20, 1)?;
+    /// old.add_change("hello, world")?;
+    /// let mut new = Surface::new(20, 1)?;
+    /// new.add_change("hello, there")?;
+    ///
+    /// let mut renderer = Renderer::new(Options::new(20, 1));
+    /// let mut out = Vec::new();
+    /// renderer.assume(&old)?;
+    /// renderer.show(&mut out, &new)?;
+    /// assert_eq!(out, b"\x1b[;8H\x1b]8;;\x1b\\\x1b[mthere\x1b[?25h");
+    /// # Ok::<(), Box<dyn std::error::Error>>(())
+    /// ```
+    pub fn assume(&mut self, screen: &Screen) -> Result<(), Error> {
+        self.lines = Some(self.read(screen)?);
+        Ok(())
+    }
+
+    /// Takes it that nothing is known of the terminal: the next write resets it, and draws all.
+    pub fn reset(&mut self) {
+        self.lines = None;
+        self.terminal.forget();
+    }
+
+    /// Takes another size of the terminal, in columns and rows, each at least 1. Terminals move
+    /// rows then, so that the next write draws all. The surface of [`Renderer::changes`] is
+    /// resized, too.
+    ///
+    /// # Errors
+    ///
+    /// [`Error::Screen`]: memory is refused, and the surface of [`Renderer::changes`] is blank
+    /// again. The size is the new one.
+    pub fn resize(&mut self, width: usize, height: usize) -> Result<(), Error> {
+        let (width, height) = (width.max(1), height.max(1));
+        self.options = Options {
+            width,
+            height,
+            ..self.options
+        };
+        self.reset();
+        if let Some(mut surface) = self.surface.take() {
+            surface.resize(width, height)?;
+            self.surface = Some(surface);
+        }
+        Ok(())
+    }
+
+    /// Leaves the terminal as it was found, but for its rows: with a default pen and no link, the
+    /// cursor shown, with its own shape and colour, and the title that it had. The cursor stays
+    /// where it is. The next write begins by a reset.
+    ///
+    /// # Errors
+    ///
+    /// [`Error::Write`].
+    pub fn end<W>(&mut self, out: &mut W) -> Result<(), Error>
+    where
+        W: Write + ?Sized,
+    {
+        if self.lines.is_none() {
+            self.recover();
+        }
+        self.terminal.end();
+        let sent = self.send(out);
+        self.reset();
+        sent
+    }
+
+    fn new_surface(&self) -> Result<Surface, crate::Error> {
+        let (width, height) = self.options.size();
+        let options = surface::Options::new().widths(self.options.widths);
+        let mut surface = Surface::with_options(width, height, options)?;
+        surface.keep_changes(false);
+        Ok(surface)
+    }
+
+    /// Appends to the terminal's bytes what it lacks of a screen.
+    fn compose(&mut self, screen: &Screen) -> Result<(), Error> {
+        let wanted = self.read(screen)?;
+        let shown = self.lines.take();
+        if shown.is_none() {
+            self.recover();
+        }
+        let begin = self.terminal.bytes.len();
+        if self.options.synchronized {
+            self.terminal.push("\x1b[?2026h");
+        }
+        let opened = self.terminal.bytes.len();
+        self.write_state(screen)?;
+        let shown = shown.unwrap_or_else(|| self.cleared());
+        self.write_lines(shown, &wanted);
+        self.write_cursor(screen, &wanted);
+        self.lines = Some(wanted);
+        if self.terminal.bytes.len() == opened {
+            self.terminal.bytes.truncate(begin);
+        } else if self.options.synchronized {
+            self.terminal.push("\x1b[?2026l");
+        }
+        Ok(())
+    }
+
+    /// Ends what a write that failed, or somebody else, may have left.
+    fn recover(&mut self) {
+        self.terminal.recover();
+        if self.options.synchronized {
+            self.terminal.push("\x1b[?2026l");
+        }
+    }
+
+    /// Clears the terminal, and returns what it shows then.
+    fn cleared(&mut self) -> Vec<Line> {
+        self.terminal.clear();
+        let usual = (!self.options.line_attributes).then_some(LineAttribute::SingleWidthLine);
+        let (width, height) = self.options.size();
+        vec![Line::blank(width, usual); height]
+    }
+
+    /// What the terminal shows of a screen.
+    fn read(&mut self, screen: &Screen) -> Result<Vec<Line>, crate::Error> {
+        let rows = 0..self.options.height;
+        let (buffer, options) = (&mut self.buffer, &self.options);
+        rows.map(|row| Line::read(screen, row, buffer, options))
+            .collect()
+    }
+
+    /// Writes what isn't of the rows, but a cursor that is to be shown.
+    fn write_state(&mut self, screen: &Screen) -> Result<(), crate::Error> {
+        self.terminal.set_title(&screen.title()?);
+        self.terminal.set_color(screen.cursor_color());
+        self.terminal.set_shape(screen.cursor_shape());
+        if screen.cursor_visibility() == CursorVisibility::Hidden {
+            self.terminal.set_visibility(CursorVisibility::Hidden);
+        }
+        Ok(())
+    }
+
+    fn write_lines(&mut self, mut shown: Vec<Line>, wanted: &[Line]) {
+        let (terminal, options) = (&mut self.terminal, &self.options);
+        if !options.line_attributes {
+            for scroll in scrolls::find(&mut shown, wanted) {
+                terminal.scroll(&scroll, options.height);
+            }
+        }
+        rows::write(terminal, options, &shown, wanted);
+    }
+
+    /// Puts the cursor where the screen has it. One behind the last column is in the last one.
+    fn write_cursor(&mut self, screen: &Screen, lines: &[Line]) {
+        let (column, row) = screen.cursor_position();
+        let row = row.min(lines.len() - 1);
+        let column = column.min(lines[row].len() - 1);
+        if self.terminal.column(row) != Some(column) {
+            self.terminal.move_to(column, row);
+        }
+        self.terminal.set_visibility(screen.cursor_visibility());
+    }
+
+    /// Writes the terminal's bytes, if there are any.
+    fn send<W>(&mut self, out: &mut W) -> Result<(), Error>
+    where
+        W: Write + ?Sized,
+    {
+        if !self.terminal.bytes.is_empty() {
+            out.write_all(&self.terminal.bytes)?;
+            out.flush()?;
+            self.terminal.bytes.clear();
+        }
+        Ok(())
+    }
+}
+
+impl fmt::Debug for Renderer {
+    fn fmt(&self, f: &mut fmt::Formatter<'_>) -> fmt::Result {
+        f.debug_struct("Renderer")
+            .field("options", &self.options)
+            .finish_non_exhaustive()
+    }
+}

@@ -1,0 +1,252 @@
+//! A row of a terminal, as it is sent.
+
+use super::options::Options;
+use super::pen::{Link, Pen};
+use super::texts::{joins, shown};
+use crate::change::LineAttribute;
+use crate::error::Error;
+use crate::rows::{Row, RowBuffer, RowCell};
+use crate::screen::Screen;
+use std::rc::Rc;
+
+/// What a row of the terminal shows: a cell for each column.
+#[derive(Clone, PartialEq, Eq, Hash)]
+pub(super) struct Line {
+    text: String,
+    cells: Vec<Cell>,
+    /// The pens of its cells. The first one is the default pen.
+    pens: Vec<Pen>,
+    /// How large it is shown, where that is known.
+    pub attribute: Option<LineAttribute>,
+}
+
+/// A column of a row.
+#[derive(Clone, PartialEq, Eq, Hash)]
+struct Cell {
+    begin: usize,
+    end: usize,
+    /// How many columns its text takes, and none at the second column of a wide one.
+    columns: usize,
+    pen: usize,
+    /// How many it takes on terminals that measure each character by itself.
+    by_characters: usize,
+    /// Whether it would be one grapheme with the text before it.
+    is_apart: bool,
+}
+
+impl Line {
+    /// A row of so many default blanks.
+    pub fn blank(columns: usize, attribute: Option<LineAttribute>) -> Line {
+        let mut line = Line::empty(attribute);
+        line.fill(columns);
+        line
+    }
+
+    fn empty(attribute: Option<LineAttribute>) -> Line {
+        Line {
+            text: String::new(),
+            cells: Vec::new(),
+            pens: vec![Pen::default()],
+            attribute,
+        }
+    }
+
+    /// What a row of a screen shows on a terminal, cut or with blanks behind it.
+    ///
+    /// # Errors
+    ///
+    /// [`Error::Memory`].
+    pub fn read(
+        screen: &Screen,
+        row: usize,
+        buffer: &mut RowBuffer,
+        options: &Options,
+    ) -> Result<Line, Error> {
+        let (_, height) = screen.dimensions();
+        let usual = LineAttribute::SingleWidthLine;
+        if row >= height {
+            return Ok(Line::blank(options.width, Some(usual)));
+        }
+        let row = screen.row(row);
+        let attribute = if options.line_attributes {
+            row.line_attribute()?
+        } else {
+            usual
+        };
+        let columns = if attribute == usual {
+            options.width
+        } else {
+            (options.width / 2).max(1)
+        };
+        row.read(buffer)?;
+        let mut line = Line::empty(Some(attribute));
+        let mut run = None;
+        for cell in buffer.cells() {
+            if line.len() >= columns {
+                break;
+            }
+            if run != Some(cell.run()) {
+                run = Some(cell.run());
+                line.add_pens(row, &cell, options)?;
+            }
+            line.add_cell(&cell, columns, screen)?;
+        }
+        line.fill(columns);
+        Ok(line)
+    }
+
+    /// Adds the pen of a run of cells, and the one of its blanks.
+    fn add_pens(&mut self, row: Row, cell: &RowCell, options: &Options) -> Result<(), Error> {
+        let mut link = None;
+        if cell.has_link() {
+            link = read_link(row, self.len())?.map(Rc::new);
+        }
+        let pen = Pen::new(cell.attrs(), link, options);
+        self.pens.push(pen.of_blank());
+        self.pens.push(pen);
+        Ok(())
+    }
+
+    /// Adds a cell with the last pen. Of a wide one that crosses the edge a blank is shown.
+    fn add_cell(&mut self, cell: &RowCell, limit: usize, screen: &Screen) -> Result<(), Error> {
+        let room = limit - self.len();
+        let columns = cell.width().max(1);
+        let text = if columns > room { " " } else { cell.str() };
+        let shown = shown(text, columns.min(room), screen.widths());
+        let last = self.pens.len() - 1;
+        let is_blank = shown.text == " ";
+        let begin = self.text.len();
+        let before = match self.cells.last() {
+            Some(cell) if !is_blank => &self.text[cell.begin..cell.end],
+            _ => "",
+        };
+        let is_apart = joins(before, &shown.text, screen.widths())?;
+        self.text.push_str(&shown.text);
+        let cell = Cell {
+            begin,
+            end: self.text.len(),
+            columns: columns.min(room),
+            pen: if is_blank { last - 1 } else { last },
+            by_characters: shown.columns,
+            is_apart,
+        };
+        for column in 0..cell.columns {
+            let columns = if column == 0 { cell.columns } else { 0 };
+            self.cells.push(Cell { columns, ..cell });
+        }
+        Ok(())
+    }
+
+    /// Adds default blanks up to so many columns.
+    fn fill(&mut self, columns: usize) {
+        while self.len() < columns {
+            let begin = self.text.len();
+            self.text.push(' ');
+            self.cells.push(Cell {
+                begin,
+                end: begin + 1,
+                columns: 1,
+                pen: 0,
+                by_characters: 1,
+                is_apart: false,
+            });
+        }
+    }
+
+    /// How many columns it has.
+    pub fn len(&self) -> usize {
+        self.cells.len()
+    }
+
+    /// The text at this column, which is that of the first one at the second one of a wide text.
+    pub fn text(&self, column: usize) -> &str {
+        let cell = &self.cells[column];
+        &self.text[cell.begin..cell.end]
+    }
+
+    /// The texts of the cells that begin from one column to another.
+    pub fn texts(&self, begin: usize, end: usize) -> &str {
+        &self.text[self.cells[begin].begin..self.cells[end].begin]
+    }
+
+    pub fn pen(&self, column: usize) -> &Pen {
+        &self.pens[self.cells[column].pen]
+    }
+
+    /// How many columns the text takes that begins at this one, or 0.
+    pub fn columns(&self, column: usize) -> usize {
+        self.cells[column].columns
+    }
+
+    /// How many the text here takes on terminals that measure each character by itself.
+    pub fn columns_by_characters(&self, column: usize) -> usize {
+        self.cells[column].by_characters
+    }
+
+    /// Whether terminals agree on the columns of the text that begins here.
+    pub fn is_certain(&self, column: usize) -> bool {
+        self.columns(column) == self.columns_by_characters(column)
+    }
+
+    /// Whether this text would be one grapheme with the one before it.
+    pub fn is_apart(&self, column: usize) -> bool {
+        self.cells[column].is_apart
+    }
+
+    pub fn is_blank(&self, column: usize) -> bool {
+        self.text(column) == " "
+    }
+
+    /// How many blanks of one pen there are from this column on.
+    pub fn blanks(&self, column: usize) -> usize {
+        let pen = self.pen(column);
+        let blanks =
+            (column..self.len()).take_while(|it| self.is_blank(*it) && self.pen(*it) == pen);
+        blanks.count()
+    }
+
+    /// For each column whether it has to be written where another row is shown. A wide text of
+    /// either row is written, or written over, whole, and so is what a text may cover on terminals
+    /// that measure it otherwise.
+    pub fn differing(&self, shown: &Line) -> Vec<bool> {
+        if self == shown {
+            return vec![false; self.len()];
+        }
+        if self.attribute != shown.attribute || self.len() != shown.len() {
+            return vec![true; self.len()];
+        }
+        let mut differing: Vec<_> = (0..self.len())
+            .map(|column| !self.is_same(shown, column))
+            .collect();
+        let is_wide = |column: usize| self.columns(column) == 2 || shown.columns(column) == 2;
+        let mut spread = |column: usize| {
+            if is_wide(column) && (differing[column] || differing[column + 1]) {
+                differing[column..column + 2].fill(true);
+            }
+            if differing[column] && self.columns(column) > 0 && !self.is_certain(column) {
+                let end = column + self.columns_by_characters(column);
+                differing[column..self.len().min(end)].fill(true);
+            }
+        };
+        (0..self.len()).for_each(&mut spread);
+        (0..self.len()).rev().for_each(&mut spread);
+        (0..self.len()).for_each(&mut spread);
+        differing
+    }
+
+    fn is_same(&self, other: &Line, column: usize) -> bool {
+        self.columns(column) == other.columns(column)
+            && self.text(column) == other.text(column)
+            && self.pen(column) == other.pen(column)
+    }
+}
+
+/// The link of the cell at this column, with its id, if it has one.
+fn read_link(row: Row, column: usize) -> Result<Option<Link>, Error> {
+    let cell = row.cell(column)?;
+    let params = row.link_params(column)?;
+    let id = params.iter().find(|(key, _)| key == "id");
+    let id = id.map(|(_, value)| value.as_str());
+    let link = cell.attrs().hyperlink();
+    Ok(link.and_then(|link| Link::new(link.uri(), id)))
+}

@@ -1,0 +1,164 @@
+//! Writes rows.
+
+use super::line::Line;
+use super::moves::by;
+use super::options::Options;
+use super::terminal::Terminal;
+
+/// The bytes of the sequence that erases to the end of a row.
+const ERASE_TO_END: usize = "\x1b[K".len();
+
+/// Writes the rows that differ from those that are shown.
+pub(super) fn write(terminal: &mut Terminal, options: &Options, shown: &[Line], wanted: &[Line]) {
+    let rows: Vec<_> = shown
+        .iter()
+        .zip(wanted)
+        .map(|(shown, wanted)| wanted.differing(shown))
+        .collect();
+    let end = blank_end(options, wanted, &rows);
+    for (number, (line, differing)) in wanted.iter().zip(&rows).enumerate().take(end) {
+        if line.attribute != shown[number].attribute {
+            if let Some(attribute) = line.attribute {
+                terminal.set_line_attribute(number, attribute);
+            }
+        }
+        let row = Row {
+            number,
+            line,
+            differing,
+            options,
+        };
+        row.write(terminal);
+    }
+    let below = rows[end..].iter().position(|row| row.contains(&true));
+    if let Some(row) = below {
+        terminal.move_to(0, end + row);
+        terminal.set_erasing_pen(wanted[end].pen(0));
+        terminal.erase_to_end_of_screen();
+    }
+}
+
+/// Where the rows begin that are erased at once: those at the end that are all blanks of one pen,
+/// where two at least differ. Else that is behind the last row.
+fn blank_end(options: &Options, wanted: &[Line], rows: &[Vec<bool>]) -> usize {
+    let height = wanted.len();
+    let Some(last) = wanted.last().filter(|_| !options.line_attributes) else {
+        return height;
+    };
+    let pen = last.pen(0);
+    let is_blank = |line: &&Line| line.blanks(0) == line.len() && line.pen(0) == pen;
+    let count = wanted.iter().rev().take_while(is_blank).count();
+    let begin = height - count;
+    let differing = rows[begin..].iter().filter(|row| row.contains(&true));
+    if pen.is_erased(options) && differing.count() > 1 {
+        begin
+    } else {
+        height
+    }
+}
+
+/// A row, and its columns that differ from what is shown.
+struct Row<'a> {
+    number: usize,
+    line: &'a Line,
+    differing: &'a [bool],
+    options: &'a Options,
+}
+
+impl Row<'_> {
+    fn write(&self, terminal: &mut Terminal) {
+        let mut column = 0;
+        while let Some(begin) = self.next(column) {
+            column = match self.erasable(begin) {
+                Some(end) => self.erase(terminal, begin, end),
+                None => self.print(terminal, begin),
+            };
+        }
+    }
+
+    /// The first column from this one on that differs.
+    fn next(&self, column: usize) -> Option<usize> {
+        let mut columns = column..self.line.len();
+        columns.find(|column| self.differing[*column])
+    }
+
+    /// Up to where it takes fewer bytes to erase blanks from a column on than to print them.
+    fn erasable(&self, begin: usize) -> Option<usize> {
+        let (line, pen) = (self.line, self.line.pen(begin));
+        if !line.is_blank(begin) || !pen.is_erased(self.options) {
+            return None;
+        }
+        let blanks = begin..begin + line.blanks(begin);
+        let last = blanks.clone().rev().find(|it| self.differing[*it])?;
+        let count = last + 1 - begin;
+        let erasing = if blanks.end == line.len() {
+            ERASE_TO_END
+        } else {
+            let behind = self.next(last + 1).map_or(0, |_| by(count, 'C').len());
+            by(count, 'X').len() + behind
+        };
+        (erasing < count).then_some(last + 1)
+    }
+
+    /// Erases blanks, and returns where they end.
+    fn erase(&self, terminal: &mut Terminal, begin: usize, end: usize) -> usize {
+        let pen = self.line.pen(begin);
+        self.reach(terminal, begin);
+        terminal.set_erasing_pen(pen);
+        if begin + self.line.blanks(begin) == self.line.len() {
+            terminal.erase_to_end_of_line();
+        } else {
+            terminal.erase_columns(end - begin);
+        }
+        end
+    }
+
+    /// Prints the text that begins at a column, and returns where it ends.
+    fn print(&self, terminal: &mut Terminal, begin: usize) -> usize {
+        let (line, pen) = (self.line, self.line.pen(begin));
+        let columns = line.columns(begin).max(1);
+        if line.is_apart(begin) {
+            terminal.part();
+        }
+        self.reach(terminal, begin);
+        if !terminal.has_pen(pen, line.is_blank(begin)) {
+            terminal.set_pen(pen);
+        }
+        if line.is_certain(begin) {
+            terminal.print(line.text(begin), columns, line.len());
+        } else {
+            let most = columns.max(line.columns_by_characters(begin));
+            terminal.print_uncertain(line.text(begin), columns, most, line.len());
+        }
+        begin + columns
+    }
+
+    /// Moves to a column: by what is shown before it, where that is shorter than a move.
+    fn reach(&self, terminal: &mut Terminal, column: usize) {
+        if let Some(from) = terminal.column(self.number) {
+            if from < column && self.is_passable(terminal, from, column) {
+                let texts = self.line.texts(from, column);
+                terminal.print(texts, column - from, self.line.len());
+                return;
+            }
+        }
+        terminal.move_to(column, self.number);
+    }
+
+    /// Whether the texts from one column to another may be printed instead of a move, and take
+    /// fewer bytes.
+    fn is_passable(&self, terminal: &Terminal, from: usize, to: usize) -> bool {
+        let line = self.line;
+        let is_plain = |column: usize| {
+            line.is_certain(column)
+                && !line.is_apart(column)
+                && terminal.has_pen(line.pen(column), line.is_blank(column))
+        };
+        let cost = terminal.move_cost(to, self.number);
+        to - from < cost + cost
+            && line.columns(from) > 0
+            && line.texts(from, to).len() < cost
+            && (from..to).all(is_plain)
+            && !line.is_apart(to)
+    }
+}

@@ -1,0 +1,308 @@
+//! The state that a terminal is in, and the bytes that change it.
+
+use super::colors::palette;
+use super::moves::{by, shortest, Place};
+use super::pen::{has_marks, Link, Pen};
+use super::scrolls::Scroll;
+use super::sgr;
+use crate::attributes::Attributes;
+use crate::change::{CursorShape, CursorVisibility, LineAttribute};
+use crate::color::ColorAttribute;
+use std::fmt;
+use std::io::Write;
+use std::rc::Rc;
+
+/// What a terminal was last told, or nothing where that is unknown, and what it is to be told.
+pub(super) struct Terminal {
+    /// What is still to be written.
+    pub bytes: Vec<u8>,
+    place: Place,
+    attributes: Option<Attributes>,
+    link: Option<Option<Rc<Link>>>,
+    visibility: Option<CursorVisibility>,
+    shape: Option<CursorShape>,
+    color: Option<ColorAttribute>,
+    title: Option<String>,
+    /// Whether it keeps the title that it had.
+    keeps_title: bool,
+}
+
+impl Terminal {
+    /// A terminal whose cursor has its own shape and colour, and of which no more is known.
+    pub fn new() -> Terminal {
+        Terminal {
+            bytes: Vec::new(),
+            place: Place::Unknown,
+            attributes: None,
+            link: None,
+            visibility: None,
+            shape: Some(CursorShape::Default),
+            color: Some(ColorAttribute::Default),
+            title: None,
+            keeps_title: false,
+        }
+    }
+
+    /// Nothing is known, and nothing is to be written.
+    pub fn forget(&mut self) {
+        *self = Terminal {
+            shape: None,
+            color: None,
+            keeps_title: self.keeps_title,
+            ..Terminal::new()
+        };
+    }
+
+    pub fn push(&mut self, text: &str) {
+        self.bytes.extend_from_slice(text.as_bytes());
+    }
+
+    fn push_format(&mut self, arguments: fmt::Arguments<'_>) {
+        // A vector takes all.
+        self.bytes.write_fmt(arguments).unwrap_or_default();
+    }
+
+    /// Ends a sequence that was cut, and a region of rows that was left.
+    pub fn recover(&mut self) {
+        self.push("\x1b\\\x1b[r");
+        self.place = Place::Unknown;
+    }
+
+    /// Erases all, by the default background.
+    pub fn clear(&mut self) {
+        self.set_pen(&Pen::default());
+        self.place = Place::Unknown;
+        self.move_to(0, 0);
+        self.push("\x1b[2J");
+    }
+
+    pub fn move_to(&mut self, column: usize, row: usize) {
+        self.push(&shortest(self.place, column, row));
+        self.place = Place::At(column, row);
+    }
+
+    /// The bytes of a move.
+    pub fn move_cost(&self, column: usize, row: usize) -> usize {
+        shortest(self.place, column, row).len()
+    }
+
+    /// The column on this row, where it is known.
+    pub fn column(&self, row: usize) -> Option<usize> {
+        match self.place {
+            Place::At(column, at) if at == row => Some(column),
+            _ => None,
+        }
+    }
+
+    /// What is printed next is no part of the grapheme before it.
+    pub fn part(&mut self) {
+        self.place = Place::Unknown;
+    }
+
+    /// Prints a text of so many columns on a row that has `width` columns. Behind the last one the
+    /// terminal's column is unknown, since a wrap may be pending.
+    pub fn print(&mut self, text: &str, columns: usize, width: usize) {
+        self.push(text);
+        self.place = match self.place {
+            Place::At(column, row) if column + columns < width => Place::At(column + columns, row),
+            Place::At(_, row) | Place::Row(row) => Place::Row(row),
+            Place::Unknown => Place::Unknown,
+        };
+    }
+
+    /// Prints a text that takes other columns on some terminals, up to `most`. All its columns are
+    /// blank before, so that one that takes fewer leaves none of what was shown; one that takes
+    /// more, and would wrap, doesn't; and the text's end is unknown.
+    pub fn print_uncertain(&mut self, text: &str, columns: usize, most: usize, width: usize) {
+        let mut would_wrap = true;
+        if let Place::At(column, row) = self.place {
+            would_wrap = column + most > width;
+            if columns > 1 {
+                self.print(&" ".repeat(columns), columns, width);
+                self.move_to(column, row);
+            }
+        }
+        if would_wrap {
+            self.push("\x1b[?7l");
+        }
+        self.push(text);
+        if would_wrap {
+            self.push("\x1b[?7h");
+        }
+        self.place = Place::Unknown;
+    }
+
+    pub fn set_pen(&mut self, pen: &Pen) {
+        self.set_link(&pen.link);
+        if self.attributes.as_ref() != Some(&pen.attributes) {
+            self.push(&sgr::sequence(self.attributes.as_ref(), &pen.attributes));
+            self.attributes = Some(pen.attributes.clone());
+        }
+    }
+
+    /// Whether a text with this pen may be printed now, or a blank that looks as with it.
+    pub fn has_pen(&self, pen: &Pen, is_blank: bool) -> bool {
+        let Some(attributes) = &self.attributes else {
+            return false;
+        };
+        self.link.as_ref() == Some(&pen.link)
+            && (*attributes == pen.attributes || is_blank && blanks_alike(attributes, pen))
+    }
+
+    /// Sets a pen by which erased cells are as blanks with this one.
+    pub fn set_erasing_pen(&mut self, pen: &Pen) {
+        if !self.has_pen(pen, true) {
+            self.set_pen(pen);
+        }
+    }
+
+    fn set_link(&mut self, link: &Option<Rc<Link>>) {
+        if self.link.as_ref() == Some(link) {
+            return;
+        }
+        match link {
+            Some(link) => {
+                self.push_format(format_args!("\x1b]8;id={};{}\x1b\\", link.id, link.uri))
+            }
+            None => self.push("\x1b]8;;\x1b\\"),
+        }
+        self.link = Some(link.clone());
+    }
+
+    /// Erases from the cursor to the end of its row.
+    pub fn erase_to_end_of_line(&mut self) {
+        self.push("\x1b[K");
+    }
+
+    /// Erases so many columns from the cursor on.
+    pub fn erase_columns(&mut self, count: usize) {
+        self.push(&by(count, 'X'));
+    }
+
+    /// Erases from the cursor to the end of the last row.
+    pub fn erase_to_end_of_screen(&mut self) {
+        self.push("\x1b[J");
+    }
+
+    /// Scrolls rows. The region is all rows again then.
+    pub fn scroll(&mut self, scroll: &Scroll, height: usize) {
+        let Scroll {
+            top,
+            bottom,
+            count,
+            up,
+        } = *scroll;
+        self.set_erasing_pen(&Pen::default());
+        // Lines are inserted and deleted up to the last row where there is no region.
+        let is_region = bottom < height;
+        if is_region {
+            self.push_format(format_args!("\x1b[{};{bottom}r", top + 1));
+            self.place = Place::At(0, 0);
+        }
+        let (edge, feed, code) = if up {
+            (bottom - 1, "\n", 'M')
+        } else {
+            (top, "\x1bM", 'L')
+        };
+        let lines = by(count, code);
+        let feeds = feed.repeat(count.min(lines.len()));
+        let saves = feeds.len() + self.move_cost(0, edge) < lines.len() + self.move_cost(0, top);
+        if (is_region || top == 0) && saves && feeds.len() == feed.len() * count {
+            self.move_to(0, edge);
+            self.push(&feeds);
+        } else {
+            self.move_to(0, top);
+            self.push(&lines);
+        }
+        if is_region {
+            self.push("\x1b[r");
+            self.place = Place::At(0, 0);
+        }
+    }
+
+    /// Sets how large a row is shown.
+    pub fn set_line_attribute(&mut self, row: usize, attribute: LineAttribute) {
+        self.move_to(0, row);
+        self.push(match attribute {
+            LineAttribute::DoubleHeightTopHalfLine => "\x1b#3",
+            LineAttribute::DoubleHeightBottomHalfLine => "\x1b#4",
+            LineAttribute::SingleWidthLine => "\x1b#5",
+            LineAttribute::DoubleWidthLine => "\x1b#6",
+        });
+    }
+
+    pub fn set_visibility(&mut self, visibility: CursorVisibility) {
+        if self.visibility != Some(visibility) {
+            self.push(match visibility {
+                CursorVisibility::Visible => "\x1b[?25h",
+                CursorVisibility::Hidden => "\x1b[?25l",
+            });
+            self.visibility = Some(visibility);
+        }
+    }
+
+    pub fn set_shape(&mut self, shape: CursorShape) {
+        if self.shape != Some(shape) {
+            self.push_format(format_args!("\x1b[{} q", shape as u8));
+            self.shape = Some(shape);
+        }
+    }
+
+    /// Sets the cursor's colour. That of an index is sent as the palette has it usually.
+    pub fn set_color(&mut self, color: ColorAttribute) {
+        if self.color == Some(color) {
+            return;
+        }
+        let rgb = match color {
+            ColorAttribute::Default => None,
+            ColorAttribute::PaletteIndex(index) => Some(palette(index)),
+            ColorAttribute::TrueColorWithDefaultFallback(rgb)
+            | ColorAttribute::TrueColorWithPaletteFallback(rgb, _) => Some(rgb),
+        };
+        match rgb.map(|rgb| rgb.to_tuple_rgb8()) {
+            None => self.push("\x1b]112\x1b\\"),
+            Some((red, green, blue)) => {
+                self.push_format(format_args!(
+                    "\x1b]12;#{red:02x}{green:02x}{blue:02x}\x1b\\"
+                ));
+            }
+        }
+        self.color = Some(color);
+    }
+
+    /// Sets the title, without its control characters. The terminal keeps the one that it had,
+    /// which an empty one leaves where none was set.
+    pub fn set_title(&mut self, title: &str) {
+        if self.title.as_deref() == Some(title) {
+            return;
+        }
+        if !title.is_empty() && !self.keeps_title {
+            self.push("\x1b[22;2t");
+            self.keeps_title = true;
+        }
+        if self.keeps_title {
+            let shown: String = title.chars().filter(|it| !it.is_control()).collect();
+            self.push_format(format_args!("\x1b]2;{shown}\x1b\\"));
+        }
+        self.title = Some(title.into());
+    }
+
+    /// Sets all as it was before anything was.
+    pub fn end(&mut self) {
+        self.set_pen(&Pen::default());
+        self.set_shape(CursorShape::Default);
+        self.set_color(ColorAttribute::Default);
+        if self.keeps_title {
+            self.push("\x1b[23;2t");
+            self.keeps_title = false;
+        }
+        self.set_visibility(CursorVisibility::Visible);
+    }
+}
+
+/// Whether a blank with these attributes looks as one with this pen.
+fn blanks_alike(attributes: &Attributes, pen: &Pen) -> bool {
+    attributes.background == pen.attributes.background
+        && !has_marks(attributes)
+        && !has_marks(&pen.attributes)
+}

@@ -7,6 +7,7 @@
 #[path = "terminal/parser.rs"]
 mod parser;
 #[path = "terminal/terminal.rs"]
+#[allow(dead_code)] // it may keep what scrolls off
 mod terminal;
 
 use std::env;

@@ -43,6 +43,7 @@
 //! Blanks have their background, and of their other attributes only what is seen.
 
 mod colors;
+mod compose;
 mod error;
 mod line;
 mod moves;
@@ -50,6 +51,7 @@ mod options;
 mod pen;
 mod rows;
 mod scrolls;
+mod settings;
 mod sgr;
 mod terminal;
 mod texts;
@@ -58,12 +60,12 @@ pub use colors::Colors;
 pub use error::Error;
 pub use options::Options;
 
-use crate::change::{CursorVisibility, LineAttribute};
 use crate::changes::Changes;
 use crate::rows::RowBuffer;
 use crate::screen::Screen;
-use crate::surface::{self, Surface};
+use crate::surface::Surface;
 use line::Line;
+use pen::Pen;
 use std::fmt;
 use std::io::Write;
 use terminal::Terminal;
@@ -273,112 +275,11 @@ impl Renderer {
         if self.lines.is_none() {
             self.recover();
         }
-        self.terminal.end();
+        self.terminal.set_pen(&Pen::default());
+        self.terminal.settings.end(&mut self.terminal.bytes);
         let sent = self.send(out);
         self.reset();
         sent
-    }
-
-    fn new_surface(&self) -> Result<Surface, crate::Error> {
-        let (width, height) = self.options.size();
-        let options = surface::Options::new().widths(self.options.widths);
-        let mut surface = Surface::with_options(width, height, options)?;
-        surface.keep_changes(false);
-        Ok(surface)
-    }
-
-    /// Appends to the terminal's bytes what it lacks of a screen.
-    fn compose(&mut self, screen: &Screen) -> Result<(), Error> {
-        let wanted = self.read(screen)?;
-        let shown = self.lines.take();
-        if shown.is_none() {
-            self.recover();
-        }
-        let begin = self.terminal.bytes.len();
-        if self.options.synchronized {
-            self.terminal.push("\x1b[?2026h");
-        }
-        let opened = self.terminal.bytes.len();
-        self.write_state(screen)?;
-        let shown = shown.unwrap_or_else(|| self.cleared());
-        self.write_lines(shown, &wanted);
-        self.write_cursor(screen, &wanted);
-        self.lines = Some(wanted);
-        if self.terminal.bytes.len() == opened {
-            self.terminal.bytes.truncate(begin);
-        } else if self.options.synchronized {
-            self.terminal.push("\x1b[?2026l");
-        }
-        Ok(())
-    }
-
-    /// Ends what a write that failed, or somebody else, may have left.
-    fn recover(&mut self) {
-        self.terminal.recover();
-        if self.options.synchronized {
-            self.terminal.push("\x1b[?2026l");
-        }
-    }
-
-    /// Clears the terminal, and returns what it shows then.
-    fn cleared(&mut self) -> Vec<Line> {
-        self.terminal.clear();
-        let usual = (!self.options.line_attributes).then_some(LineAttribute::SingleWidthLine);
-        let (width, height) = self.options.size();
-        vec![Line::blank(width, usual); height]
-    }
-
-    /// What the terminal shows of a screen.
-    fn read(&mut self, screen: &Screen) -> Result<Vec<Line>, crate::Error> {
-        let rows = 0..self.options.height;
-        let (buffer, options) = (&mut self.buffer, &self.options);
-        rows.map(|row| Line::read(screen, row, buffer, options))
-            .collect()
-    }
-
-    /// Writes what isn't of the rows, but a cursor that is to be shown.
-    fn write_state(&mut self, screen: &Screen) -> Result<(), crate::Error> {
-        self.terminal.set_title(&screen.title()?);
-        self.terminal.set_color(screen.cursor_color());
-        self.terminal.set_shape(screen.cursor_shape());
-        if screen.cursor_visibility() == CursorVisibility::Hidden {
-            self.terminal.set_visibility(CursorVisibility::Hidden);
-        }
-        Ok(())
-    }
-
-    fn write_lines(&mut self, mut shown: Vec<Line>, wanted: &[Line]) {
-        let (terminal, options) = (&mut self.terminal, &self.options);
-        if !options.line_attributes {
-            for scroll in scrolls::find(&mut shown, wanted) {
-                terminal.scroll(&scroll, options.height);
-            }
-        }
-        rows::write(terminal, options, &shown, wanted);
-    }
-
-    /// Puts the cursor where the screen has it. One behind the last column is in the last one.
-    fn write_cursor(&mut self, screen: &Screen, lines: &[Line]) {
-        let (column, row) = screen.cursor_position();
-        let row = row.min(lines.len() - 1);
-        let column = column.min(lines[row].len() - 1);
-        if self.terminal.column(row) != Some(column) {
-            self.terminal.move_to(column, row);
-        }
-        self.terminal.set_visibility(screen.cursor_visibility());
-    }
-
-    /// Writes the terminal's bytes, if there are any.
-    fn send<W>(&mut self, out: &mut W) -> Result<(), Error>
-    where
-        W: Write + ?Sized,
-    {
-        if !self.terminal.bytes.is_empty() {
-            out.write_all(&self.terminal.bytes)?;
-            out.flush()?;
-            self.terminal.bytes.clear();
-        }
-        Ok(())
     }
 }
 

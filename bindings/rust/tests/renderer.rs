@@ -1,13 +1,15 @@
-//! What `examples/renderer.rs` writes is, to the terminal in `examples/terminal`, the session that
-//! it shows: the same cells, cursor and title after each part.
+//! What a renderer writes is, to the terminal in `examples/terminal`, the session that it shows:
+//! the same cells, cursor and title after each part.
 
-#[path = "../examples/renderer.rs"]
-mod renderer;
+#[path = "../examples/terminal/parser.rs"]
+mod parser;
+#[path = "../examples/terminal/terminal.rs"]
+#[allow(dead_code)] // it may keep what scrolls off
+mod terminal;
 
-use renderer::terminal::Terminal;
-use renderer::Renderer;
-use std::mem;
-use tikeburo::{Cell, CursorVisibility, Row, Screen};
+use terminal::Terminal;
+use tikeburo::render::{Options, Renderer};
+use tikeburo::{Attributes, Cell, Changes, CursorVisibility, Row, Screen, Underline};
 
 const SESSION: &str = concat!(
     "\x1b]2;notes か\x07first\r\n\x1b[1;34mblue \x1b[0;7;42mon green\x1b[m\r\n",
@@ -20,8 +22,19 @@ const SESSION: &str = concat!(
 );
 
 /// All that is seen of a screen. The cursor is in the last column where a wrap is pending, too.
-fn seen(screen: &Screen) -> (Vec<Vec<Cell>>, (usize, usize), CursorVisibility, String) {
-    let cells = |row: Row<'_>| row.into_iter().map(Result::unwrap).collect();
+type Seen = (
+    Vec<Vec<(String, Attributes)>>,
+    (usize, usize),
+    CursorVisibility,
+    String,
+);
+
+fn seen(screen: &Screen) -> Seen {
+    let cells = |row: Row<'_>| {
+        row.into_iter()
+            .map(|cell| seen_cell(&cell.unwrap()))
+            .collect()
+    };
     let (column, row) = screen.cursor_position();
     (
         screen.rows().map(cells).collect(),
@@ -31,18 +44,43 @@ fn seen(screen: &Screen) -> (Vec<Vec<Cell>>, (usize, usize), CursorVisibility, S
     )
 }
 
+/// A cell's text and attributes: of those of a blank, what is seen.
+fn seen_cell(cell: &Cell) -> (String, Attributes) {
+    let mut pen = cell.attrs().clone();
+    let has_marks = pen.reverse || pen.strikethrough || pen.underline != Underline::None;
+    if cell.str() == " " && !has_marks {
+        pen = Attributes {
+            background: pen.background,
+            ..Attributes::default()
+        };
+    }
+    (cell.str().into(), pen)
+}
+
 #[test]
 fn what_is_written_shows_the_session() {
     for size in [1, 7, 40, SESSION.len()] {
-        let [mut played, mut shown] = [0; 2].map(|_| Terminal::new(20, 6).unwrap());
+        let [mut played, mut shown, mut followed] = [0; 3].map(|_| Terminal::new(20, 6).unwrap());
         played.surface.keep_changes(true);
-        let mut renderer = Renderer::new(Vec::new());
+        let [mut renderer, mut follower] = [0; 2].map(|_| Renderer::new(Options::new(20, 6)));
+        let (mut since, mut changes) = (0, Changes::new());
         for (number, part) in SESSION.as_bytes().chunks(size).enumerate() {
             played.feed(part).unwrap();
-            renderer.show(&played.surface).unwrap();
-            shown.feed(&mem::take(&mut renderer.out)).unwrap();
-            let (played, shown) = (seen(&played.surface), seen(&shown.surface));
-            assert_eq!(shown, played, "part {number} of {size} bytes");
+            let mut out = Vec::new();
+            renderer.show(&mut out, &played.surface).unwrap();
+            shown.feed(&out).unwrap();
+            let what = format!("part {number} of {size} bytes");
+            assert_eq!(seen(&shown.surface), seen(&played.surface), "{what}");
+
+            out.clear();
+            since = played.surface.read_changes(since, &mut changes).unwrap();
+            follower.changes(&mut out, &changes).unwrap();
+            followed.feed(&out).unwrap();
+            assert_eq!(
+                seen(&followed.surface),
+                seen(&played.surface),
+                "{what}, by changes"
+            );
         }
     }
 }

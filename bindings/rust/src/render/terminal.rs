@@ -1,13 +1,12 @@
 //! The state that a terminal is in, and the bytes that change it.
 
-use super::colors::palette;
 use super::moves::{by, shortest, Place};
 use super::pen::{has_marks, Link, Pen};
 use super::scrolls::Scroll;
+use super::settings::Settings;
 use super::sgr;
 use crate::attributes::Attributes;
-use crate::change::{CursorShape, CursorVisibility, LineAttribute};
-use crate::color::ColorAttribute;
+use crate::change::LineAttribute;
 use std::fmt;
 use std::io::Write;
 use std::rc::Rc;
@@ -19,12 +18,7 @@ pub(super) struct Terminal {
     place: Place,
     attributes: Option<Attributes>,
     link: Option<Option<Rc<Link>>>,
-    visibility: Option<CursorVisibility>,
-    shape: Option<CursorShape>,
-    color: Option<ColorAttribute>,
-    title: Option<String>,
-    /// Whether it keeps the title that it had.
-    keeps_title: bool,
+    pub settings: Settings,
 }
 
 impl Terminal {
@@ -35,20 +29,14 @@ impl Terminal {
             place: Place::Unknown,
             attributes: None,
             link: None,
-            visibility: None,
-            shape: Some(CursorShape::Default),
-            color: Some(ColorAttribute::Default),
-            title: None,
-            keeps_title: false,
+            settings: Settings::new(),
         }
     }
 
     /// Nothing is known, and nothing is to be written.
     pub fn forget(&mut self) {
         *self = Terminal {
-            shape: None,
-            color: None,
-            keeps_title: self.keeps_title,
+            settings: self.settings.forgotten(),
             ..Terminal::new()
         };
     }
@@ -229,74 +217,6 @@ impl Terminal {
             LineAttribute::SingleWidthLine => "\x1b#5",
             LineAttribute::DoubleWidthLine => "\x1b#6",
         });
-    }
-
-    pub fn set_visibility(&mut self, visibility: CursorVisibility) {
-        if self.visibility != Some(visibility) {
-            self.push(match visibility {
-                CursorVisibility::Visible => "\x1b[?25h",
-                CursorVisibility::Hidden => "\x1b[?25l",
-            });
-            self.visibility = Some(visibility);
-        }
-    }
-
-    pub fn set_shape(&mut self, shape: CursorShape) {
-        if self.shape != Some(shape) {
-            self.push_format(format_args!("\x1b[{} q", shape as u8));
-            self.shape = Some(shape);
-        }
-    }
-
-    /// Sets the cursor's colour. That of an index is sent as the palette has it usually.
-    pub fn set_color(&mut self, color: ColorAttribute) {
-        if self.color == Some(color) {
-            return;
-        }
-        let rgb = match color {
-            ColorAttribute::Default => None,
-            ColorAttribute::PaletteIndex(index) => Some(palette(index)),
-            ColorAttribute::TrueColorWithDefaultFallback(rgb)
-            | ColorAttribute::TrueColorWithPaletteFallback(rgb, _) => Some(rgb),
-        };
-        match rgb.map(|rgb| rgb.to_tuple_rgb8()) {
-            None => self.push("\x1b]112\x1b\\"),
-            Some((red, green, blue)) => {
-                self.push_format(format_args!(
-                    "\x1b]12;#{red:02x}{green:02x}{blue:02x}\x1b\\"
-                ));
-            }
-        }
-        self.color = Some(color);
-    }
-
-    /// Sets the title, without its control characters. The terminal keeps the one that it had,
-    /// which an empty one leaves where none was set.
-    pub fn set_title(&mut self, title: &str) {
-        if self.title.as_deref() == Some(title) {
-            return;
-        }
-        if !title.is_empty() && !self.keeps_title {
-            self.push("\x1b[22;2t");
-            self.keeps_title = true;
-        }
-        if self.keeps_title {
-            let shown: String = title.chars().filter(|it| !it.is_control()).collect();
-            self.push_format(format_args!("\x1b]2;{shown}\x1b\\"));
-        }
-        self.title = Some(title.into());
-    }
-
-    /// Sets all as it was before anything was.
-    pub fn end(&mut self) {
-        self.set_pen(&Pen::default());
-        self.set_shape(CursorShape::Default);
-        self.set_color(ColorAttribute::Default);
-        if self.keeps_title {
-            self.push("\x1b[23;2t");
-            self.keeps_title = false;
-        }
-        self.set_visibility(CursorVisibility::Visible);
     }
 }
 

@@ -1,0 +1,120 @@
+//! Composes what is written to show a screen.
+
+use super::error::Error;
+use super::line::Line;
+use super::terminal::Terminal;
+use super::{rows, scrolls, Renderer};
+use crate::change::{CursorVisibility, LineAttribute};
+use crate::screen::Screen;
+use crate::surface::{self, Surface};
+use std::io::Write;
+
+impl Renderer {
+    pub(super) fn new_surface(&self) -> Result<Surface, crate::Error> {
+        let (width, height) = self.options.size();
+        let options = surface::Options::new().widths(self.options.widths);
+        let mut surface = Surface::with_options(width, height, options)?;
+        surface.keep_changes(false);
+        Ok(surface)
+    }
+
+    /// Appends to the terminal's bytes what it lacks of a screen.
+    pub(super) fn compose(&mut self, screen: &Screen) -> Result<(), Error> {
+        let wanted = self.read(screen)?;
+        let shown = self.lines.take();
+        if shown.is_none() {
+            self.recover();
+        }
+        let begin = self.terminal.bytes.len();
+        if self.options.synchronized {
+            self.terminal.push("\x1b[?2026h");
+        }
+        let opened = self.terminal.bytes.len();
+        self.write_state(screen)?;
+        let shown = shown.unwrap_or_else(|| self.cleared());
+        self.write_lines(shown, &wanted);
+        self.write_cursor(screen, &wanted);
+        self.lines = Some(wanted);
+        if self.terminal.bytes.len() == opened {
+            self.terminal.bytes.truncate(begin);
+        } else if self.options.synchronized {
+            self.terminal.push("\x1b[?2026l");
+        }
+        Ok(())
+    }
+
+    /// Ends what a write that failed, or somebody else, may have left.
+    pub(super) fn recover(&mut self) {
+        self.terminal.recover();
+        if self.options.synchronized {
+            self.terminal.push("\x1b[?2026l");
+        }
+    }
+
+    /// Clears the terminal, and returns what it shows then.
+    fn cleared(&mut self) -> Vec<Line> {
+        self.terminal.clear();
+        let usual = (!self.options.line_attributes).then_some(LineAttribute::SingleWidthLine);
+        let (width, height) = self.options.size();
+        vec![Line::blank(width, usual); height]
+    }
+
+    /// What the terminal shows of a screen.
+    pub(super) fn read(&mut self, screen: &Screen) -> Result<Vec<Line>, crate::Error> {
+        let rows = 0..self.options.height;
+        let (buffer, options) = (&mut self.buffer, &self.options);
+        rows.map(|row| Line::read(screen, row, buffer, options))
+            .collect()
+    }
+
+    /// Writes what isn't of the rows, but a cursor that is to be shown.
+    fn write_state(&mut self, screen: &Screen) -> Result<(), crate::Error> {
+        let Terminal {
+            settings, bytes, ..
+        } = &mut self.terminal;
+        settings.set_title(&screen.title()?, bytes);
+        settings.set_color(screen.cursor_color(), bytes);
+        settings.set_shape(screen.cursor_shape(), bytes);
+        if screen.cursor_visibility() == CursorVisibility::Hidden {
+            settings.set_visibility(CursorVisibility::Hidden, bytes);
+        }
+        Ok(())
+    }
+
+    fn write_lines(&mut self, mut shown: Vec<Line>, wanted: &[Line]) {
+        let (terminal, options) = (&mut self.terminal, &self.options);
+        if !options.line_attributes {
+            for scroll in scrolls::find(&mut shown, wanted) {
+                terminal.scroll(&scroll, options.height);
+            }
+        }
+        rows::write(terminal, options, &shown, wanted);
+    }
+
+    /// Puts the cursor where the screen has it. One behind the last column is in the last one.
+    fn write_cursor(&mut self, screen: &Screen, lines: &[Line]) {
+        let (column, row) = screen.cursor_position();
+        let row = row.min(lines.len() - 1);
+        let column = column.min(lines[row].len() - 1);
+        if self.terminal.column(row) != Some(column) {
+            self.terminal.move_to(column, row);
+        }
+        let Terminal {
+            settings, bytes, ..
+        } = &mut self.terminal;
+        settings.set_visibility(screen.cursor_visibility(), bytes);
+    }
+
+    /// Writes the terminal's bytes, if there are any.
+    pub(super) fn send<W>(&mut self, out: &mut W) -> Result<(), Error>
+    where
+        W: Write + ?Sized,
+    {
+        if !self.terminal.bytes.is_empty() {
+            out.write_all(&self.terminal.bytes)?;
+            out.flush()?;
+            self.terminal.bytes.clear();
+        }
+        Ok(())
+    }
+}

@@ -1,0 +1,567 @@
+//! What a renderer writes is, to a strict model of a terminal, what the screen shows: for random
+//! screens of many sizes, with wide texts, marks, emoji, pens and links.
+
+mod render_model;
+
+use render_model::{Glyph, Measure, Model};
+use std::io::{self, Write};
+use tikeburo::render::{Error, Options, Renderer};
+use tikeburo::{
+    text_width, AttributeChange, Attributes, Blink, Changes, ColorAttribute, CursorShape,
+    CursorVisibility, Hyperlink, Intensity, LineAttribute, Position, RgbColor, Screen, Surface,
+    Underline, Widths,
+};
+
+const TEXTS: [&str; 32] = [
+    "a",
+    "b",
+    "xyz",
+    " ",
+    "   ",
+    "か",
+    "漢字",
+    "e\u{301}",
+    "\u{301}",
+    "👩\u{200d}🚀",
+    "🇩🇪",
+    "🇩",
+    "🇪",
+    "☂\u{fe0f}",
+    "☂",
+    "\u{1100}",
+    "\u{1161}",
+    "क",
+    "\u{93f}",
+    "\u{94d}",
+    "\u{85}",
+    "\t",
+    "\u{7f}",
+    "\u{200d}",
+    "─",
+    "\r\n",
+    "\n",
+    "words of a line ",
+    "               ",
+    "×",
+    "👩\u{200d}",
+    "👍🏽",
+];
+
+const SIZES: [(usize, usize); 12] = [
+    (1, 1),
+    (2, 1),
+    (1, 2),
+    (2, 2),
+    (3, 3),
+    (5, 2),
+    (8, 4),
+    (9, 12),
+    (20, 6),
+    (40, 15),
+    (7, 30),
+    (80, 24),
+];
+
+/// Numbers of Marsaglia's xorshift.
+struct Random(u64);
+
+impl Random {
+    fn new(seed: u64) -> Random {
+        Random(seed.wrapping_mul(0x9e37_79b9_7f4a_7c15) | 1)
+    }
+
+    fn below(&mut self, limit: usize) -> usize {
+        self.0 ^= self.0 << 13;
+        self.0 ^= self.0 >> 7;
+        self.0 ^= self.0 << 17;
+        (self.0 >> 11) as usize % limit
+    }
+
+    fn one_of<T: Clone>(&mut self, all: &[T]) -> T {
+        all[self.below(all.len())].clone()
+    }
+
+    fn color(&mut self) -> ColorAttribute {
+        let rgb = RgbColor::new_8bpc(255, self.one_of(&[0, 128]), 7);
+        let indices = [0, 1, 7, 8, 15, 16, 200].map(ColorAttribute::PaletteIndex);
+        match self.below(6) {
+            0 => rgb.into(),
+            1 => ColorAttribute::TrueColorWithPaletteFallback(rgb, 4),
+            2..=3 => self.one_of(&indices),
+            _ => ColorAttribute::Default,
+        }
+    }
+
+    fn link(&mut self) -> Option<Hyperlink> {
+        let uris = ["http://a", "http://か/b;c d", "", "x"];
+        (self.below(4) == 0).then(|| Hyperlink::new(self.one_of(&uris)))
+    }
+
+    fn pen(&mut self) -> Attributes {
+        use Underline::{Curly, Dashed, Dotted, Double, Single};
+        let mut rarely = || self.below(5) == 0;
+        let (italic, reverse, strikethrough) = (rarely(), rarely(), rarely());
+        let (invisible, wrapped, overline) = (rarely(), rarely(), rarely());
+        let (lines, blinks) = (rarely(), rarely());
+        let underlines = [Single, Double, Curly, Dotted, Dashed];
+        Attributes {
+            intensity: self.one_of(&[Intensity::Normal, Intensity::Bold, Intensity::Half]),
+            underline: if lines {
+                self.one_of(&underlines)
+            } else {
+                Underline::None
+            },
+            blink: if blinks {
+                self.one_of(&[Blink::Slow, Blink::Rapid])
+            } else {
+                Blink::None
+            },
+            italic,
+            reverse,
+            strikethrough,
+            invisible,
+            wrapped,
+            overline,
+            foreground: self.color(),
+            background: self.color(),
+            underline_color: self.color(),
+            hyperlink: self.link(),
+            ..Attributes::default()
+        }
+    }
+
+    fn text(&mut self) -> String {
+        (0..1 + self.below(8))
+            .map(|_| self.one_of(&TEXTS))
+            .collect()
+    }
+
+    /// Some changes of a surface of this size.
+    fn changes(&mut self, width: usize, height: usize) -> Changes {
+        let mut changes = Changes::new();
+        for _ in 0..self.below(12) {
+            self.change(&mut changes, width, height);
+        }
+        changes
+    }
+
+    fn change(&mut self, changes: &mut Changes, width: usize, height: usize) {
+        let color = self.color();
+        let first = self.below(height);
+        let rows = self.below(height - first) + 1;
+        let count = 1 + self.below(rows);
+        match self.below(24) {
+            0..=7 => changes.text(&self.text()),
+            8..=9 => changes.pen(&self.pen()),
+            10..=11 => changes.move_to(self.below(width), self.below(height)),
+            12 => changes.move_by(self.below(5) as isize - 2, self.below(3) as isize - 1),
+            13 => changes.position(Position::EndRelative(self.below(3)), Position::Relative(0)),
+            14 => changes.clear_to_end_of_line(color),
+            15 => changes.clear_to_end_of_screen(color),
+            16 if self.below(4) == 0 => changes.clear_screen(color),
+            16 => changes.clear_columns(self.below(width), color),
+            17 => changes.scroll_up(first, rows, count),
+            18 => changes.scroll_down(first, rows, count),
+            19 => changes.cursor_visibility(CursorVisibility::from(self.below(2) == 0)),
+            20 => changes.cursor_shape(self.one_of(&[
+                CursorShape::Default,
+                CursorShape::SteadyBar,
+                CursorShape::BlinkingBlock,
+            ])),
+            21 => changes.title(self.one_of(&["", "か title", "a\u{9b}\x1b]b\x07"])),
+            22 => changes.cursor_color(color),
+            _ => changes.attribute(&AttributeChange::Hyperlink(self.link())),
+        };
+    }
+}
+
+/// The id of a link to this uri.
+fn link(uri: &str) -> Option<(String, String)> {
+    let mut sent = String::new();
+    for byte in uri.bytes() {
+        match byte {
+            b'!'..=b'~' => sent.push(byte.into()),
+            _ => sent += &format!("%{byte:02X}"),
+        }
+    }
+    let id = sent.bytes().fold(0x811c_9dc5, |hash: u32, byte| {
+        (hash ^ u32::from(byte)).wrapping_mul(0x0100_0193)
+    });
+    (!sent.is_empty()).then(|| (format!("{id:x}"), sent))
+}
+
+fn true_color(color: ColorAttribute) -> ColorAttribute {
+    match color {
+        ColorAttribute::TrueColorWithPaletteFallback(rgb, _) => rgb.into(),
+        color => color,
+    }
+}
+
+/// A pen as a terminal shows it: on blanks, only what is seen of it.
+fn shown_pen(pen: &Attributes, is_blank: bool) -> Attributes {
+    let background = true_color(pen.background);
+    let has_marks = pen.reverse
+        || pen.strikethrough
+        || pen.overline
+        || pen.underline != Underline::None
+        || pen.blink != Blink::None;
+    if is_blank && !has_marks {
+        return Attributes {
+            background,
+            ..Attributes::default()
+        };
+    }
+    Attributes {
+        foreground: true_color(pen.foreground),
+        background,
+        underline_color: true_color(pen.underline_color),
+        wrapped: false,
+        hyperlink: None,
+        ..pen.clone()
+    }
+}
+
+/// What a terminal of this size shows of a row.
+fn shown_row(screen: &Screen, row: usize, width: usize) -> Vec<Glyph> {
+    let mut glyphs = Vec::new();
+    for cell in screen.row(row).cells() {
+        let cell = cell.unwrap();
+        let room = width.saturating_sub(glyphs.len());
+        let columns = cell.width().min(room);
+        let mut text = cell.str().to_string();
+        text.retain(|it| !it.is_control());
+        if cell.width() > room {
+            text = " ".into();
+        } else if text_width(&text.chars().take(1).collect::<String>(), Widths::Unicode) == 0 {
+            text.insert(0, ' ');
+        }
+        let link = cell.attrs().hyperlink().and_then(|it| link(it.uri()));
+        let pen = shown_pen(cell.attrs(), text == " ");
+        for column in 0..columns {
+            glyphs.push(Glyph {
+                text: if column == 0 {
+                    text.clone()
+                } else {
+                    String::new()
+                },
+                pen: pen.clone(),
+                link: link.clone(),
+            });
+        }
+    }
+    glyphs.resize(width, Glyph::blank(ColorAttribute::Default));
+    glyphs
+}
+
+/// What is seen of the terminal.
+fn seen_row(row: &[Glyph]) -> Vec<Glyph> {
+    let glyphs = row.iter().map(|glyph| Glyph {
+        pen: shown_pen(&glyph.pen, glyph.text == " "),
+        ..glyph.clone()
+    });
+    glyphs.collect()
+}
+
+/// Whether terminals measure a text in two ways.
+fn is_uncertain(text: &str) -> bool {
+    let by_characters = text
+        .chars()
+        .map(|it| text_width(&it.to_string(), Widths::Unicode));
+    by_characters.sum::<usize>() != text_width(text, Widths::Unicode)
+}
+
+/// Compares all that is seen.
+fn check(model: &Model, screen: &Screen, what: &str) {
+    let (_, height) = screen.dimensions();
+    for (number, row) in model.rows.iter().enumerate() {
+        let wanted = if number < height {
+            shown_row(screen, number, model.width)
+        } else {
+            vec![Glyph::blank(ColorAttribute::Default); model.width]
+        };
+        let seen = seen_row(row);
+        if model.measure == Measure::Graphemes {
+            assert_eq!(seen, wanted, "{what}: row {number}");
+            continue;
+        }
+        let mut column = 0;
+        while column < wanted.len() {
+            let next = (column + 1..wanted.len()).find(|it| !wanted[*it].text.is_empty());
+            let next = next.unwrap_or(wanted.len());
+            if !is_uncertain(&wanted[column].text) {
+                assert_eq!(
+                    seen[column..next],
+                    wanted[column..next],
+                    "{what}: row {number}"
+                );
+            }
+            column = next;
+        }
+    }
+    check_settings(model, screen, what);
+}
+
+fn check_settings(model: &Model, screen: &Screen, what: &str) {
+    let (column, row) = screen.cursor_position();
+    let wanted = (column.min(model.width - 1), row.min(model.height - 1));
+    assert_eq!((model.cursor, model.is_pending), (wanted, false), "{what}");
+    let visibility = CursorVisibility::from(model.is_visible);
+    assert_eq!(visibility, screen.cursor_visibility(), "{what}");
+    assert_eq!(model.shape, screen.cursor_shape() as usize, "{what}");
+    let is_default = screen.cursor_color() == ColorAttribute::Default;
+    assert_eq!(model.color.is_none(), is_default, "{what}");
+    let mut title = screen.title().unwrap();
+    title.retain(|it| !it.is_control());
+    if title.is_empty() && model.titles.is_empty() {
+        title = "own".into();
+    }
+    assert_eq!(model.title, title, "{what}");
+}
+
+/// Plays random changes on surfaces of many sizes, and shows each on a model that `prepare` made.
+fn play(seeds: u64, options: fn(Options) -> Options, prepare: fn(&mut Model)) -> (usize, usize) {
+    let (mut screens, mut scrolls) = (0, 0);
+    for seed in 0..seeds {
+        let mut random = Random::new(seed);
+        let (width, height) = random.one_of(&SIZES);
+        let mut surface = Surface::new(width, height).unwrap();
+        let mut renderer = Renderer::new(options(Options::new(width, height)));
+        let mut model = Model::new(width, height);
+        prepare(&mut model);
+        for step in 0..12 {
+            surface.add(&random.changes(width, height)).unwrap();
+            let mut out = Vec::new();
+            renderer.show(&mut out, &surface).unwrap();
+            model.feed(&out);
+            let what = format!("seed {seed}, step {step}, {width}x{height}");
+            check(&model, &surface, &what);
+            screens += 1;
+            out.clear();
+            renderer.show(&mut out, &surface).unwrap();
+            assert!(out.is_empty(), "{what}: shown again");
+        }
+        let mut out = Vec::new();
+        renderer.end(&mut out).unwrap();
+        model.feed(&out);
+        check_end(&model);
+        scrolls += model.scrolls;
+    }
+    (screens, scrolls)
+}
+
+fn check_end(model: &Model) {
+    assert_eq!(model.pen, Attributes::default());
+    assert_eq!(model.link, None);
+    assert!(model.is_visible && model.wraps && model.titles.is_empty());
+    assert_eq!((model.shape, &model.color), (0, &None));
+    assert_eq!(model.title, "own");
+}
+
+#[test]
+fn screens_are_shown() {
+    let (screens, scrolls) = play(400, |options| options, |_| {});
+    assert_eq!(screens, 4800);
+    assert!(scrolls > 100, "{scrolls} scrolls");
+}
+
+#[test]
+fn screens_are_shown_by_updates_that_are_synchronized() {
+    play(60, |options| options.synchronized(true), |_| {});
+}
+
+#[test]
+fn screens_are_shown_where_erased_cells_have_no_background() {
+    play(
+        200,
+        |options| options.erases_with_background(false),
+        |model| model.erases_with_background = false,
+    );
+}
+
+#[test]
+fn screens_are_shown_where_characters_are_measured_one_by_one() {
+    play(
+        400,
+        |options| options,
+        |model| model.measure = Measure::Characters,
+    );
+}
+
+#[test]
+fn changes_are_shown() {
+    for seed in 0..200 {
+        let mut random = Random::new(seed + 1000);
+        let (width, height) = random.one_of(&SIZES);
+        let mut surface = Surface::new(width, height).unwrap();
+        let mut renderer = Renderer::new(Options::new(width, height));
+        let mut followed = Renderer::new(Options::new(width, height));
+        let [mut model, mut follower] = [0; 2].map(|_| Model::new(width, height));
+        let (mut since, mut list) = (0, Changes::new());
+        for step in 0..12 {
+            let changes = random.changes(width, height);
+            surface.add(&changes).unwrap();
+            let [mut out, mut other] = [0; 2].map(|_| Vec::new());
+            renderer.changes(&mut out, &changes).unwrap();
+            model.feed(&out);
+            let what = format!("seed {seed}, step {step}, {width}x{height}");
+            check(&model, &surface, &what);
+            since = surface.read_changes(since, &mut list).unwrap();
+            followed.changes(&mut other, &list).unwrap();
+            follower.feed(&other);
+            check(&follower, &surface, &what);
+        }
+    }
+}
+
+#[test]
+fn a_terminal_may_have_another_size() {
+    for seed in 0..150 {
+        let mut random = Random::new(seed + 2000);
+        let (width, height) = random.one_of(&SIZES);
+        let mut surface = Surface::new(width, height).unwrap();
+        let (width, height) = random.one_of(&SIZES);
+        let mut renderer = Renderer::new(Options::new(width, height));
+        let mut model = Model::new(width, height);
+        for step in 0..6 {
+            let (width, height) = surface.dimensions();
+            surface.add(&random.changes(width, height)).unwrap();
+            let mut out = Vec::new();
+            renderer.show(&mut out, &surface).unwrap();
+            model.feed(&out);
+            check(&model, &surface, &format!("seed {seed}, step {step}"));
+            let (width, height) = random.one_of(&SIZES);
+            if step == 2 {
+                renderer.resize(width, height).unwrap();
+                model = Model::new(width, height);
+            } else if step == 4 {
+                surface.resize(width, height).unwrap();
+            }
+        }
+    }
+}
+
+#[test]
+fn one_screen_becomes_another() {
+    for seed in 0..200 {
+        let mut random = Random::new(seed + 3000);
+        let (width, height) = random.one_of(&SIZES);
+        let [mut old, mut new] = [0; 2].map(|_| Surface::new(width, height).unwrap());
+        for _ in 0..4 {
+            old.add(&random.changes(width, height)).unwrap();
+        }
+        new.draw_from_screen(&old, 0, 0).unwrap();
+        new.add(&random.changes(width, height)).unwrap();
+        let mut model = Model::new(width, height);
+        let mut out = Vec::new();
+        Renderer::new(Options::new(width, height))
+            .show(&mut out, &old)
+            .unwrap();
+        model.feed(&out);
+
+        out.clear();
+        let mut renderer = Renderer::new(Options::new(width, height));
+        renderer.assume(&old).unwrap();
+        renderer.reset();
+        renderer.assume(&old).unwrap();
+        renderer.show(&mut out, &new).unwrap();
+        model.feed(&out);
+        if !new.title().unwrap().is_empty() || model.titles.is_empty() {
+            check(&model, &new, &format!("seed {seed}"));
+        }
+    }
+}
+
+#[test]
+fn lines_may_be_large() {
+    use LineAttribute::{DoubleHeightTopHalfLine, DoubleWidthLine, SingleWidthLine};
+    for seed in 0..200 {
+        let mut random = Random::new(seed + 4000);
+        let (width, height) = random.one_of(&SIZES);
+        let mut surface = Surface::new(width, height).unwrap();
+        let options = Options::new(width, height).line_attributes(true);
+        let mut renderer = Renderer::new(options);
+        let mut model = Model::new(width, height);
+        model.lines = vec!['6'; height];
+        for step in 0..8 {
+            surface.add(&random.changes(width, height)).unwrap();
+            let large = [SingleWidthLine, DoubleWidthLine, DoubleHeightTopHalfLine];
+            let mut changes = Changes::new();
+            changes.move_to(0, random.below(height));
+            surface
+                .add(changes.line_attribute(random.one_of(&large)))
+                .unwrap();
+            let mut out = Vec::new();
+            renderer.show(&mut out, &surface).unwrap();
+            model.feed(&out);
+            for (number, row) in model.rows.iter().enumerate() {
+                let attribute = surface.row(number).line_attribute().unwrap();
+                let (code, width) = match attribute {
+                    SingleWidthLine => ('5', width),
+                    DoubleWidthLine => ('6', (width / 2).max(1)),
+                    _ => ('3', (width / 2).max(1)),
+                };
+                assert_eq!(model.lines[number], code, "seed {seed}, step {step}");
+                let wanted = shown_row(&surface, number, width);
+                let wanted: Vec<_> = wanted.into_iter().take(width).collect();
+                assert_eq!(seen_row(&row[..width]), wanted, "seed {seed}, step {step}");
+            }
+        }
+    }
+}
+
+/// Fails behind so many bytes.
+struct Failing {
+    left: usize,
+}
+
+impl Write for Failing {
+    fn write(&mut self, bytes: &[u8]) -> io::Result<usize> {
+        if self.left == 0 {
+            return Err(io::ErrorKind::BrokenPipe.into());
+        }
+        let taken = bytes.len().min(self.left);
+        self.left -= taken;
+        Ok(taken)
+    }
+
+    fn flush(&mut self) -> io::Result<()> {
+        Ok(())
+    }
+}
+
+#[test]
+fn all_is_written_after_a_failure() {
+    for seed in 0..100 {
+        let mut random = Random::new(seed + 5000);
+        let (width, height) = random.one_of(&SIZES);
+        let mut renderer = Renderer::new(Options::new(width, height).synchronized(true));
+        let mut surface = Surface::new(width, height).unwrap();
+        let changes = random.changes(width, height);
+        surface.add(&changes).unwrap();
+        renderer.changes(&mut Vec::new(), &changes).unwrap();
+        let changes = random.changes(width, height);
+        surface.add(&changes).unwrap();
+        let mut out = Failing {
+            left: random.below(9),
+        };
+        match renderer.changes(&mut out, &changes) {
+            Ok(()) => continue, // few bytes were enough
+            Err(Error::Write(error)) => assert_eq!(error.kind(), io::ErrorKind::BrokenPipe),
+            Err(error) => panic!("{error}"),
+        }
+        // The terminal may be in any state.
+        let mut model = Model::new(width, height);
+        let mut bytes = Vec::new();
+        renderer.changes(&mut bytes, &Changes::new()).unwrap();
+        assert!(bytes.starts_with(b"\x1b\\\x1b[r\x1b[?2026l"));
+        model.feed(&bytes);
+        let title = surface.title().unwrap();
+        if !title.is_empty() {
+            assert_eq!(model.title, title.replace(char::is_control, ""));
+        }
+        model.title = "own".into();
+        model.titles.clear();
+        surface.add(Changes::new().title("")).unwrap();
+        check(&model, &surface, &format!("seed {seed}"));
+    }
+}

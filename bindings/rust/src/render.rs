@@ -74,7 +74,7 @@ use terminal::Terminal;
 ///
 /// Each write is one call of [`Write::write_all`], and one of [`Write::flush`]. Nothing is written
 /// where the terminal lacks nothing. A new renderer takes it that the terminal may show anything,
-/// and that its cursor has its own shape and colour.
+/// and that its cursor has its own shape and colour. It stays on its thread, as a surface does.
 pub struct Renderer {
     options: Options,
     terminal: Terminal,
@@ -90,8 +90,8 @@ impl Renderer {
     #[must_use]
     pub fn new(options: Options) -> Renderer {
         Renderer {
+            terminal: Terminal::new(&options),
             options,
-            terminal: Terminal::new(),
             lines: None,
             surface: None,
             buffer: RowBuffer::new(),

@@ -464,7 +464,7 @@ fn lines_are_large_where_that_is_chosen() {
         |it| it,
         |it| it.move_to(0, 1).line_attribute(large).text("ab"),
     );
-    assert_eq!(bytes, "\n\x1b#6ab\x1b[K");
+    assert_eq!(bytes, "\x1b[2H\x1b#6ab\x1b[K");
     assert_eq!(first(|it| it.line_attribute(large).text("ab")), "ab");
 }
 

@@ -7,10 +7,11 @@ use crate::change::LineAttribute;
 use crate::error::Error;
 use crate::rows::{Row, RowBuffer, RowCell};
 use crate::screen::Screen;
+use std::hash::{Hash, Hasher};
 use std::rc::Rc;
 
 /// What a row of the terminal shows: a cell for each column.
-#[derive(Clone, PartialEq, Eq, Hash)]
+#[derive(Clone, PartialEq, Eq)]
 pub(super) struct Line {
     text: String,
     cells: Vec<Cell>,
@@ -21,7 +22,7 @@ pub(super) struct Line {
 }
 
 /// A column of a row.
-#[derive(Clone, PartialEq, Eq, Hash)]
+#[derive(Clone, PartialEq, Eq)]
 struct Cell {
     begin: usize,
     end: usize,
@@ -238,6 +239,23 @@ impl Line {
         self.columns(column) == other.columns(column)
             && self.text(column) == other.text(column)
             && self.pen(column) == other.pen(column)
+    }
+}
+
+/// By its texts alone, which tell most rows apart.
+impl Hash for Line {
+    fn hash<H: Hasher>(&self, state: &mut H) {
+        self.text.hash(state);
+    }
+}
+
+#[cfg(test)]
+impl Line {
+    /// A row of these characters, of one column each, with the default pen.
+    pub fn of(text: &str) -> Line {
+        let mut line = Line::blank(text.len(), Some(LineAttribute::SingleWidthLine));
+        line.text = text.into();
+        line
     }
 }
 

@@ -13,7 +13,7 @@ const LONGEST_URI: usize = 2083;
 const LONGEST_ID: usize = 250;
 
 /// How a cell is shown: attributes that the terminal knows, and a link.
-#[derive(Clone, PartialEq, Eq, Hash, Debug, Default)]
+#[derive(Clone, PartialEq, Eq, Debug, Default)]
 pub(super) struct Pen {
     /// These have no link.
     pub attributes: Attributes,
@@ -82,7 +82,7 @@ pub(super) fn has_marks(attributes: &Attributes) -> bool {
 }
 
 /// A link, as it is sent: both are printable ASCII.
-#[derive(PartialEq, Eq, Hash, Debug)]
+#[derive(PartialEq, Eq, Debug)]
 pub(super) struct Link {
     pub id: String,
     pub uri: String,

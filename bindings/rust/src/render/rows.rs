@@ -162,3 +162,52 @@ impl Row<'_> {
             && !line.is_apart(to)
     }
 }
+
+#[cfg(test)]
+mod tests {
+    use super::*;
+    use crate::render::pen::Pen;
+
+    fn written(shown: &[&str], wanted: &[&str]) -> String {
+        let [shown, wanted] = [shown, wanted]
+            .map(|rows| -> Vec<_> { rows.iter().map(|row| Line::of(row)).collect() });
+        let options = Options::new(wanted[0].len(), wanted.len());
+        let mut terminal = Terminal::new(&options);
+        terminal.set_pen(&Pen::default());
+        terminal.move_to(0, 0);
+        terminal.bytes.clear();
+        write(&mut terminal, &options, &shown, &wanted);
+        String::from_utf8(terminal.bytes).unwrap()
+    }
+
+    #[test]
+    fn what_differs_is_written() {
+        for (shown, wanted, bytes) in [
+            ("abcdefgh", "abcdefgh", ""),
+            ("abcdefgh", "1bcdefgh", "1"),
+            ("abcdefgh", "abcdefg1", "\x1b[7C1"),
+            ("abcdefgh", "1b2defgh", "1b2"),
+            ("abcdefgh", "1bcd2fgh", "1bcd2"),
+            ("abcdefgh", "1bcde2gh", "1\x1b[4C2"),
+            ("abcdefgh", "abcd    ", "\x1b[4C\x1b[K"),
+            ("abcdefgh", "abcdef  ", "\x1b[6C  "),
+            ("abcdefgh", "a      h", "a\x1b[6X"),
+            ("abcdefgh", "        ", "\x1b[K"),
+            ("        ", "       a", "\x1b[7Ca"),
+        ] {
+            assert_eq!(written(&[shown], &[wanted]), bytes, "{wanted}");
+        }
+        let long = "abcdefghijklmnopqrst";
+        let erased = "a                  1";
+        assert_eq!(written(&[long], &[erased]), "a\x1b[18X\x1b[18C1");
+    }
+
+    #[test]
+    fn rows_are_reached_by_short_moves() {
+        let shown = ["aa", "bb", "cc", "dd"];
+        assert_eq!(written(&shown, &["aa", "1b", "2c", "dd"]), "\n1\r\n2");
+        assert_eq!(written(&shown, &["a1", "2b", "cc", "dd"]), "a1\r\n2");
+        assert_eq!(written(&shown, &["aa", "  ", "  ", "  "]), "\n\x1b[J");
+        assert_eq!(written(&shown, &["aa", "bb", "cc", "  "]), "\n\n\n  ");
+    }
+}

@@ -2,13 +2,16 @@
 
 use super::line::Line;
 use std::collections::HashMap;
-use std::ops::Range;
 
 /// How many scrolls are looked for at most.
 const MOST: usize = 4;
 
-/// What a scroll takes, in columns that could be printed for it.
-const COST: usize = 20;
+/// What a scroll takes about, in bytes: in a region, and of all rows up to the last one.
+const REGION: isize = 14;
+const LINES: isize = 8;
+
+/// What it takes to erase blanks.
+const ERASE: isize = 3;
 
 /// A scroll by so many rows of those from the top to the bottom one, which is none of them.
 #[derive(Clone, Copy, PartialEq, Eq, Debug)]
@@ -47,7 +50,7 @@ pub(super) fn find(shown: &mut [Line], wanted: &[Line]) -> Vec<Scroll> {
             .zip(wanted)
             .map(|(shown, wanted)| cost(wanted, shown))
             .collect();
-        if costs.iter().sum::<usize>() <= COST {
+        if costs.iter().sum::<isize>() <= LINES {
             break;
         }
         let (shown_lines, wanted_lines) = numbers(shown, wanted);
@@ -66,10 +69,17 @@ pub(super) fn find(shown: &mut [Line], wanted: &[Line]) -> Vec<Scroll> {
     scrolls
 }
 
-/// How many columns of a row differ from what is shown.
-fn cost(wanted: &Line, shown: &Line) -> usize {
-    let differing = wanted.differing(shown);
-    differing.iter().filter(|it| **it).count()
+/// What a row takes about, in bytes: its texts that differ, and an erase of blanks.
+fn cost(wanted: &Line, shown: &Line) -> isize {
+    let (mut texts, mut blanks) = (0, 0);
+    for (column, differs) in wanted.differing(shown).into_iter().enumerate() {
+        match differs {
+            true if wanted.is_blank(column) => blanks += 1,
+            true => texts += 1,
+            false => {}
+        }
+    }
+    texts + ERASE.min(blanks)
 }
 
 /// A number for each row: equal rows have equal ones.
@@ -83,68 +93,124 @@ fn numbers(shown: &[Line], wanted: &[Line]) -> (Vec<usize>, Vec<usize>) {
     (shown, wanted.iter().map(&mut number).collect())
 }
 
-/// The numbers of rows, and how many columns of each would be written: as all is, and on blanks.
+/// The numbers of rows, and what each takes: as all is, and on blanks.
 struct Search<'a> {
     shown: &'a [usize],
     wanted: &'a [usize],
-    costs: &'a [usize],
-    blank_costs: &'a [usize],
+    costs: &'a [isize],
+    blank_costs: &'a [isize],
 }
 
 impl Search<'_> {
     /// The scroll that saves the most, if one saves anything.
     fn best(&self) -> Option<Scroll> {
-        let (shown, wanted) = (self.shown, self.wanted);
-        let mut best = None;
-        for count in 1..shown.len() {
-            let (upper, lower) = (0..shown.len() - count, count..shown.len());
+        let mut best = (0, None);
+        for count in 1..self.shown.len() {
             for up in [true, false] {
-                let (to, from) = if up {
-                    (&upper, &lower)
-                } else {
-                    (&lower, &upper)
-                };
-                let pairs = wanted[to.clone()].iter().zip(&shown[from.clone()]);
-                let moved: Vec<_> = pairs.map(|(wanted, shown)| wanted == shown).collect();
-                for run in runs(&moved) {
-                    let scroll = Scroll {
-                        top: run.start,
-                        bottom: run.end + count,
-                        count,
-                        up,
-                    };
-                    let saved = self.saved(&scroll);
-                    if saved > best.map_or(0, |(most, _)| most) {
-                        best = Some((saved, scroll));
-                    }
+                let (saved, scroll) = self.best_by(count, up);
+                if saved > best.0 {
+                    best = (saved, Some(scroll));
                 }
             }
         }
-        best.map(|(_, scroll)| scroll)
+        best.1
     }
 
-    /// How many columns a scroll saves: those of the rows that it brings, without what it takes,
-    /// and without what the rows then lack that it leaves blank.
-    fn saved(&self, scroll: &Scroll) -> usize {
-        let blank = if scroll.up {
-            scroll.bottom - scroll.count..scroll.bottom
-        } else {
-            scroll.top..scroll.top + scroll.count
+    /// The scroll by so many rows that saves the most, and what it saves.
+    fn best_by(&self, count: usize, up: bool) -> (isize, Scroll) {
+        let height = self.shown.len();
+        let (to, from) = if up { (0, count) } else { (count, 0) };
+        let blanks = self.blanks_saved(count);
+        // The rows that are moved are those from `begin` to `end`, and `sum` is what all before
+        // `end` save. Blanks come in behind them, or before them.
+        let (mut begin, mut most_before, mut sum) = (0, isize::MIN, 0);
+        let mut best = (isize::MIN, 0..0);
+        for end in 1..=height - count {
+            let row = end - 1;
+            let before = if up { -sum } else { blanks[row] - sum };
+            if before >= most_before {
+                (begin, most_before) = (row, before);
+            }
+            sum += self.saved(row + to, row + from);
+            let behind = if up { blanks[end] } else { 0 };
+            let takes = if end + count < height { REGION } else { LINES };
+            let saved = most_before + sum + behind - takes;
+            if saved > best.0 {
+                best = (saved, begin..end + count);
+            }
+        }
+        let (saved, rows) = best;
+        let scroll = Scroll {
+            top: rows.start,
+            bottom: rows.end,
+            count,
+            up,
         };
-        let before: usize = self.costs[scroll.top..scroll.bottom].iter().sum();
-        let after: usize = self.blank_costs[blank].iter().sum();
-        before.saturating_sub(after + COST)
+        (saved, scroll)
+    }
+
+    /// What a row saves where it shows what another one did.
+    fn saved(&self, row: usize, from: usize) -> isize {
+        if self.wanted[row] == self.shown[from] {
+            self.costs[row]
+        } else {
+            (self.costs[row] - self.blank_costs[row]).min(0)
+        }
+    }
+
+    /// For each row what is saved where so many from there on are blank: nothing, or less.
+    fn blanks_saved(&self, count: usize) -> Vec<isize> {
+        let pairs = self.costs.iter().zip(self.blank_costs);
+        let saved: Vec<_> = pairs.map(|(cost, blank)| (cost - blank).min(0)).collect();
+        let sums = saved.windows(count).map(|rows| rows.iter().sum());
+        sums.collect()
     }
 }
 
-/// The runs of what is true.
-fn runs(values: &[bool]) -> Vec<Range<usize>> {
-    let mut runs: Vec<Range<usize>> = Vec::new();
-    for (place, _) in values.iter().enumerate().filter(|(_, value)| **value) {
-        match runs.last_mut() {
-            Some(run) if run.end == place => run.end += 1,
-            _ => runs.push(place..place + 1),
+#[cfg(test)]
+mod tests {
+    use super::*;
+
+    fn lines(letters: &str) -> Vec<Line> {
+        let line = |letter: char| Line::of(&letter.to_string().repeat(9));
+        letters.chars().map(line).collect()
+    }
+
+    #[test]
+    fn rows_that_are_still_to_be_seen_scroll() {
+        let scroll = |top, bottom, count, up| Scroll {
+            top,
+            bottom,
+            count,
+            up,
+        };
+        for (shown, wanted, scrolls, left) in [
+            ("abcdef", "abcdef", vec![], "abcdef"),
+            ("abcdef", "abcde1", vec![], "abcdef"),
+            ("abcdef", "bcdef1", vec![scroll(0, 6, 1, true)], "bcdef "),
+            ("abcdef", "12abcd", vec![scroll(0, 6, 2, false)], "  abcd"),
+            ("abcdef", "acde1f", vec![scroll(1, 5, 1, true)], "acde f"),
+            ("abcdef", "a1bcdf", vec![scroll(1, 5, 1, false)], "a bcdf"),
+            ("abcdef", "123456", vec![], "abcdef"),
+            // One row saves less than a scroll takes.
+            ("abcdef", "b1cdef", vec![], "abcdef"),
+            (
+                "abcdefghijkl",
+                "bcdef1hijkl2",
+                vec![scroll(0, 12, 1, true)],
+                "bcdefghijkl ",
+            ),
+            (
+                "abcdefghijkl",
+                "bcdef1 ghijk",
+                // Each goes up to the last row, so that none needs a region.
+                vec![scroll(0, 12, 1, true), scroll(5, 12, 2, false)],
+                "bcdef  ghijk",
+            ),
+        ] {
+            let mut now = lines(shown);
+            assert_eq!(find(&mut now, &lines(wanted)), scrolls, "{shown} {wanted}");
+            assert!(now == lines(left), "{shown} {wanted}");
         }
     }
-    runs
 }

@@ -1,6 +1,7 @@
 //! The state that a terminal is in, and the bytes that change it.
 
 use super::moves::{by, shortest, Place};
+use super::options::Options;
 use super::pen::{has_marks, Link, Pen};
 use super::scrolls::Scroll;
 use super::settings::Settings;
@@ -19,12 +20,15 @@ pub(super) struct Terminal {
     attributes: Option<Attributes>,
     link: Option<Option<Rc<Link>>>,
     pub settings: Settings,
+    /// Whether rows may have different widths, so that the cursor can't go along one for another.
+    has_large_lines: bool,
 }
 
 impl Terminal {
     /// A terminal whose cursor has its own shape and colour, and of which no more is known.
-    pub fn new() -> Terminal {
+    pub fn new(options: &Options) -> Terminal {
         Terminal {
+            has_large_lines: options.line_attributes,
             bytes: Vec::new(),
             place: Place::Unknown,
             attributes: None,
@@ -35,10 +39,11 @@ impl Terminal {
 
     /// Nothing is known, and nothing is to be written.
     pub fn forget(&mut self) {
-        *self = Terminal {
-            settings: self.settings.forgotten(),
-            ..Terminal::new()
-        };
+        self.bytes.clear();
+        self.place = Place::Unknown;
+        self.attributes = None;
+        self.link = None;
+        self.settings = self.settings.forgotten();
     }
 
     pub fn push(&mut self, text: &str) {
@@ -65,13 +70,22 @@ impl Terminal {
     }
 
     pub fn move_to(&mut self, column: usize, row: usize) {
-        self.push(&shortest(self.place, column, row));
+        self.push(&self.shortest(column, row));
         self.place = Place::At(column, row);
+    }
+
+    fn shortest(&self, column: usize, row: usize) -> String {
+        match self.place {
+            Place::At(_, at) | Place::Row(at) if self.has_large_lines && at != row => {
+                shortest(Place::Unknown, column, row)
+            }
+            place => shortest(place, column, row),
+        }
     }
 
     /// The bytes of a move.
     pub fn move_cost(&self, column: usize, row: usize) -> usize {
-        shortest(self.place, column, row).len()
+        self.shortest(column, row).len()
     }
 
     /// The column on this row, where it is known.

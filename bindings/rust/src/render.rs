@@ -35,7 +35,8 @@
 //!   stands on a space: it would join the cell before.
 //! - Texts of two cells that would be one grapheme are written with a move between.
 //! - After a text that terminals measure in two ways, such as an emoji of several characters, the
-//!   cursor is moved by its place on the screen.
+//!   cursor is moved by its place on the screen. Near the end of a row it is written with wrapping
+//!   off.
 //! - Control characters are left out: of cells, titles and links.
 //! - A link to an empty uri, or to one of more than 2083 bytes as it is encoded, is none.
 //! - What a text is to a shell, and whether it is raised or lowered, isn't shown.
@@ -263,7 +264,8 @@ impl Renderer {
 
     /// Leaves the terminal as it was found, but for its rows: with a default pen and no link, the
     /// cursor shown, with its own shape and colour, and the title that it had. The cursor stays
-    /// where it is. The next write begins by a reset.
+    /// where it is, unless nothing is known of the terminal: then it goes to the first column and
+    /// row. The next write begins by a reset.
     ///
     /// # Errors
     ///

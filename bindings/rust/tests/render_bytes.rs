@@ -66,7 +66,7 @@ fn texts_are_printed() {
     assert_eq!(first(|it| it.text("abc")), "abc");
     assert_eq!(first(|it| it.text("ab\r\ncd")), "ab\r\ncd");
     assert_eq!(first(|it| it.text("か漢e\u{301}")), "か漢e\u{301}");
-    assert_eq!(first(|it| it.text("a\x07\tb\x7f")), "a  b");
+    assert_eq!(first(|it| it.text("a\x07\tb\x7f")), "a  b\x1b[C");
     assert_eq!(first(|it| it.text("")), "");
 }
 
@@ -89,8 +89,6 @@ fn a_wide_text_that_begins_in_the_last_column_is_a_blank() {
 
 #[test]
 fn both_halves_of_a_wide_text_are_written_over() {
-    let wide = |it: &mut Changes| -> *mut Changes { it.text("か漢") };
-    let _ = wide;
     assert_eq!(
         written(|it| it.text("か漢"), |it| it.move_to(1, 0).text("x")),
         "\r x"
@@ -119,7 +117,7 @@ fn texts_that_would_join_stand_apart() {
 #[test]
 fn a_text_that_terminals_measure_in_two_ways_has_room() {
     let rocket = "👩\u{200d}🚀";
-    let wanted = format!("  \x08\x08{rocket}\x1b[;3Hx");
+    let wanted = format!("  \r{rocket}\x1b[;3Hx");
     assert_eq!(
         first(|it| it.text(rocket).text("x")),
         format!("{wanted} \x08")
@@ -255,7 +253,7 @@ fn moves_are_the_shortest() {
     );
     assert_eq!(
         written(|it| it.text("abc"), |it| it.move_by(1, 0).text("d")),
-        "\x1b[Cd"
+        " d"
     );
 }
 
@@ -312,7 +310,7 @@ fn clears_erase() {
         cleared(|it| it
             .move_to(6, 0)
             .clear_to_end_of_line(ColorAttribute::Default)),
-        "\x08\x08  \x08\x08"
+        "\x08\x08\x1b[K"
     );
     assert_eq!(
         cleared(|it| it.move_to(1, 0).clear_columns(6, ColorAttribute::Default)),
@@ -360,19 +358,15 @@ fn rows_scroll() {
         (|it| it.scroll_down(2, 4, 2), "\x1b[3;6r\n\n\x1b[2L\x1b[r"),
         (|it| it.scroll_up(0, 8, 1), "\x1b[M"),
         (|it| it.scroll_up(0, 8, 3), "\x1b[3M"),
-        (|it| it.scroll_up(4, 4, 1), "\x1b[5H\x1b[M\x1b[H"),
+        (|it| it.scroll_up(4, 4, 1), "\x1b[4B\x1b[M\x1b[d"),
         (|it| it.scroll_down(0, 8, 1), "\x1bM"),
-        (|it| it.scroll_down(4, 4, 1), "\x1b[4B\x1b[L\x1b[H"),
+        (|it| it.scroll_down(4, 4, 1), "\x1b[4B\x1b[L\x1b[d"),
         // A scroll that leaves nothing clears.
         (|it| it.scroll_up(0, 8, 8), "\x1b[J"),
-        (|it| it.scroll_up(6, 2, 2), "\x1b[7H\x1b[J\x1b[H"),
+        (|it| it.scroll_up(6, 2, 2), "\x1b[6B\x1b[J\x1b[d"),
     ] {
         let bytes = written_by(options, letters, scroll);
-        if wanted.contains("\x1b[5H") {
-            assert_eq!(bytes, wanted.replace("\x1b[5H", "\x1b[4B"));
-        } else {
-            assert_eq!(bytes, wanted);
-        }
+        assert_eq!(bytes, wanted);
     }
     // A line feed at the end scrolls.
     let bytes = written_by(
@@ -384,7 +378,7 @@ fn rows_scroll() {
     // The rows that come in have no background.
     let bytes = written_by(
         options,
-        |it| letters(it).move_to(0, 7).background(BLUE).text("x"),
+        |it| letters(it).move_to(9, 7).background(BLUE).text("x"),
         |it| it.text("\r\n"),
     );
     assert_eq!(bytes, "\x1b[m\r\n");

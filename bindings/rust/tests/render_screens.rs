@@ -234,6 +234,9 @@ fn shown_row(screen: &Screen, row: usize, width: usize) -> Vec<Glyph> {
             text = " ".into();
         } else if text_width(&text.chars().take(1).collect::<String>(), Widths::Unicode) == 0 {
             text.insert(0, ' ');
+            if text_width(&text, Widths::Unicode) > columns {
+                text = " ".repeat(columns);
+            }
         }
         let link = cell.attrs().hyperlink().and_then(|it| link(it.uri()));
         let pen = shown_pen(cell.attrs(), text == " ");
@@ -279,26 +282,39 @@ fn check(model: &Model, screen: &Screen, what: &str) {
         } else {
             vec![Glyph::blank(ColorAttribute::Default); model.width]
         };
-        let seen = seen_row(row);
-        if model.measure == Measure::Graphemes {
-            assert_eq!(seen, wanted, "{what}: row {number}");
-            continue;
-        }
-        let mut column = 0;
-        while column < wanted.len() {
-            let next = (column + 1..wanted.len()).find(|it| !wanted[*it].text.is_empty());
-            let next = next.unwrap_or(wanted.len());
-            if !is_uncertain(&wanted[column].text) {
-                assert_eq!(
-                    seen[column..next],
-                    wanted[column..next],
-                    "{what}: row {number}"
-                );
-            }
-            column = next;
-        }
+        check_row(
+            row,
+            &wanted,
+            model.measure,
+            &format!("{what}, row {number}"),
+        );
     }
     check_settings(model, screen, what);
+}
+
+/// Compares each text of a row. Where characters are measured one by one, those of a text may stand
+/// in columns of their own, and some texts are shown in another way.
+fn check_row(row: &[Glyph], wanted: &[Glyph], measure: Measure, what: &str) {
+    let mut column = 0;
+    while column < wanted.len() {
+        let begin = column;
+        column += 1;
+        while wanted
+            .get(column)
+            .map_or(false, |glyph| glyph.text.is_empty())
+        {
+            column += 1;
+        }
+        let (mut seen, wanted) = (row[begin..column].to_vec(), &wanted[begin..column]);
+        if measure == Measure::Characters {
+            if is_uncertain(&wanted[0].text) {
+                continue;
+            }
+            seen[0].text = seen.iter().map(|glyph| glyph.text.as_str()).collect();
+            seen[1..].iter_mut().for_each(|glyph| glyph.text.clear());
+        }
+        assert_eq!(seen_row(&seen), wanted, "{what}, column {begin}");
+    }
 }
 
 fn check_settings(model: &Model, screen: &Screen, what: &str) {
@@ -432,7 +448,11 @@ fn a_terminal_may_have_another_size() {
             let (width, height) = random.one_of(&SIZES);
             if step == 2 {
                 renderer.resize(width, height).unwrap();
-                model = Model::new(width, height);
+                model = Model {
+                    title: model.title,
+                    titles: model.titles,
+                    ..Model::new(width, height)
+                };
             } else if step == 4 {
                 surface.resize(width, height).unwrap();
             }
@@ -502,8 +522,8 @@ fn lines_may_be_large() {
                 };
                 assert_eq!(model.lines[number], code, "seed {seed}, step {step}");
                 let wanted = shown_row(&surface, number, width);
-                let wanted: Vec<_> = wanted.into_iter().take(width).collect();
-                assert_eq!(seen_row(&row[..width]), wanted, "seed {seed}, step {step}");
+                let what = format!("seed {seed}, step {step}, row {number}");
+                check_row(&row[..width], &wanted, model.measure, &what);
             }
         }
     }

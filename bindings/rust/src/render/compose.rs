@@ -96,9 +96,7 @@ impl Renderer {
         let (column, row) = screen.cursor_position();
         let row = row.min(lines.len() - 1);
         let column = column.min(lines[row].len() - 1);
-        if self.terminal.column(row) != Some(column) {
-            self.terminal.move_to(column, row);
-        }
+        self.terminal.move_to(column, row);
         let Terminal {
             settings, bytes, ..
         } = &mut self.terminal;

@@ -5,8 +5,9 @@ use super::moves::by;
 use super::options::Options;
 use super::terminal::Terminal;
 
-/// The bytes of the sequence that erases to the end of a row.
-const ERASE_TO_END: usize = "\x1b[K".len();
+/// How many blanks at the end of a row are erased and not printed. That takes up to a byte more,
+/// but leaves the cursor where it is known to be.
+const ERASED_AT_END: usize = 2;
 
 /// Writes the rows that differ from those that are shown.
 pub(super) fn write(terminal: &mut Terminal, options: &Options, shown: &[Line], wanted: &[Line]) {
@@ -91,13 +92,13 @@ impl Row<'_> {
         let blanks = begin..begin + line.blanks(begin);
         let last = blanks.clone().rev().find(|it| self.differing[*it])?;
         let count = last + 1 - begin;
-        let erasing = if blanks.end == line.len() {
-            ERASE_TO_END
+        let is_short = if blanks.end == line.len() {
+            count >= ERASED_AT_END
         } else {
             let behind = self.next(last + 1).map_or(0, |_| by(count, 'C').len());
-            by(count, 'X').len() + behind
+            by(count, 'X').len() + behind < count
         };
-        (erasing < count).then_some(last + 1)
+        is_short.then_some(last + 1)
     }
 
     /// Erases blanks, and returns where they end.
@@ -190,7 +191,8 @@ mod tests {
             ("abcdefgh", "1bcd2fgh", "1bcd2"),
             ("abcdefgh", "1bcde2gh", "1\x1b[4C2"),
             ("abcdefgh", "abcd    ", "\x1b[4C\x1b[K"),
-            ("abcdefgh", "abcdef  ", "\x1b[6C  "),
+            ("abcdefgh", "abcdef  ", "\x1b[6C\x1b[K"),
+            ("abcdefgh", "abcdefg ", "\x1b[7C "),
             ("abcdefgh", "a      h", "a\x1b[6X"),
             ("abcdefgh", "        ", "\x1b[K"),
             ("        ", "       a", "\x1b[7Ca"),
@@ -208,6 +210,6 @@ mod tests {
         assert_eq!(written(&shown, &["aa", "1b", "2c", "dd"]), "\n1\r\n2");
         assert_eq!(written(&shown, &["a1", "2b", "cc", "dd"]), "a1\r\n2");
         assert_eq!(written(&shown, &["aa", "  ", "  ", "  "]), "\n\x1b[J");
-        assert_eq!(written(&shown, &["aa", "bb", "cc", "  "]), "\n\n\n  ");
+        assert_eq!(written(&shown, &["aa", "bb", "cc", "  "]), "\n\n\n\x1b[K");
     }
 }

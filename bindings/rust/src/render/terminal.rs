@@ -70,8 +70,10 @@ impl Terminal {
     }
 
     pub fn move_to(&mut self, column: usize, row: usize) {
-        self.push(&self.shortest(column, row));
-        self.place = Place::At(column, row);
+        if self.place != Place::At(column, row) {
+            self.push(&self.shortest(column, row));
+            self.place = Place::At(column, row);
+        }
     }
 
     fn shortest(&self, column: usize, row: usize) -> String {

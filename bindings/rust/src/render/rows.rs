@@ -128,10 +128,21 @@ impl Row<'_> {
         if line.is_certain(begin) {
             terminal.print(line.text(begin), columns, line.len());
         } else {
-            let most = columns.max(line.columns_by_characters(begin));
-            terminal.print_uncertain(line.text(begin), columns, most, line.len());
+            self.print_uncertain(terminal, begin);
         }
         begin + columns
+    }
+
+    /// Prints a text that takes fewer or more columns on some terminals. All its columns are blank
+    /// before, so that nothing stays of what was shown where it takes fewer.
+    fn print_uncertain(&self, terminal: &mut Terminal, begin: usize) {
+        let (line, columns) = (self.line, self.line.columns(begin));
+        if columns > 1 {
+            terminal.print(&" ".repeat(columns), columns, line.len());
+            terminal.move_to(begin, self.number);
+        }
+        let might_wrap = begin + line.columns_by_characters(begin) > line.len();
+        terminal.print_uncertain(line.text(begin), self.number, might_wrap);
     }
 
     /// Moves to a column: by what is shown before it, where that is shorter than a move.

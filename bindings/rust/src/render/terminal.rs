@@ -98,9 +98,11 @@ impl Terminal {
         }
     }
 
-    /// What is printed next is no part of the grapheme before it.
+    /// What is printed next is no part of the grapheme before it: a move comes between.
     pub fn part(&mut self) {
-        self.place = Place::Unknown;
+        if let Place::At(_, row) = self.place {
+            self.place = Place::Row(row);
+        }
     }
 
     /// Prints a text of so many columns on a row that has `width` columns. Behind the last one the
@@ -114,26 +116,17 @@ impl Terminal {
         };
     }
 
-    /// Prints a text that takes other columns on some terminals, up to `most`. All its columns are
-    /// blank before, so that one that takes fewer leaves none of what was shown; one that takes
-    /// more, and would wrap, doesn't; and the text's end is unknown.
-    pub fn print_uncertain(&mut self, text: &str, columns: usize, most: usize, width: usize) {
-        let mut would_wrap = true;
-        if let Place::At(column, row) = self.place {
-            would_wrap = column + most > width;
-            if columns > 1 {
-                self.print(&" ".repeat(columns), columns, width);
-                self.move_to(column, row);
-            }
-        }
-        if would_wrap {
+    /// Prints a text that takes other columns on some terminals. The column behind it is unknown,
+    /// and where it might wrap, it doesn't.
+    pub fn print_uncertain(&mut self, text: &str, row: usize, might_wrap: bool) {
+        if might_wrap {
             self.push("\x1b[?7l");
         }
         self.push(text);
-        if would_wrap {
+        if might_wrap {
             self.push("\x1b[?7h");
         }
-        self.place = Place::Unknown;
+        self.place = Place::Row(row);
     }
 
     pub fn set_pen(&mut self, pen: &Pen) {

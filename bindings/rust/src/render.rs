@@ -150,8 +150,9 @@ impl Renderer {
     /// # Errors
     ///
     /// [`Error::Screen`]: the changes are refused, as by [`Surface::add`], and nothing has
-    /// changed; after [`Error::Memory`](crate::Error::Memory) the surface is blank again.
-    /// [`Error::Write`]: the changes are made, and the next write begins by a reset.
+    /// changed. Where that is [`Error::Memory`](crate::Error::Memory), the surface is blank again,
+    /// and the next write begins by a reset. [`Error::Write`]: the changes are made, and the next
+    /// write begins by a reset.
     ///
     /// # Examples
     ///
@@ -178,14 +179,12 @@ impl Renderer {
             Some(surface) => surface,
             None => self.new_surface()?,
         };
-        if let Err(error) = surface.add(changes) {
-            if error != crate::Error::Memory {
-                self.surface = Some(surface);
-            }
-            return Err(error.into());
+        let made = surface.add(changes).map_err(Error::Screen);
+        let shown = made.and_then(|_| self.show(out, &surface));
+        match shown {
+            Err(Error::Screen(crate::Error::Memory)) => self.reset(),
+            _ => self.surface = Some(surface),
         }
-        let shown = self.show(out, &surface);
-        self.surface = Some(surface);
         shown
     }
 
@@ -245,8 +244,8 @@ impl Renderer {
     ///
     /// # Errors
     ///
-    /// [`Error::Screen`]: memory is refused, and the surface of [`Renderer::changes`] is blank
-    /// again. The size is the new one.
+    /// [`Error::Screen`], as by [`Surface::resize`]: the surface of [`Renderer::changes`] is blank
+    /// again, and the size is the new one.
     pub fn resize(&mut self, width: usize, height: usize) -> Result<(), Error> {
         let (width, height) = (width.max(1), height.max(1));
         self.options = Options {

@@ -19,6 +19,8 @@ pub(super) struct Line {
     pens: Vec<Pen>,
     /// How large it is shown, where that is known.
     pub attribute: Option<LineAttribute>,
+    /// Whether each text takes one column, on all terminals.
+    is_plain: bool,
 }
 
 /// A column of a row.
@@ -49,6 +51,7 @@ impl Line {
             cells: Vec::new(),
             pens: vec![Pen::default()],
             attribute,
+            is_plain: true,
         }
     }
 
@@ -131,6 +134,7 @@ impl Line {
             by_characters: shown.columns,
             is_apart,
         };
+        self.is_plain &= cell.columns == 1 && cell.by_characters == 1;
         for column in 0..cell.columns {
             let columns = if column == 0 { cell.columns } else { 0 };
             self.cells.push(Cell { columns, ..cell });
@@ -219,6 +223,9 @@ impl Line {
         let mut differing: Vec<_> = (0..self.len())
             .map(|column| !self.is_same(shown, column))
             .collect();
+        if self.is_plain && shown.is_plain {
+            return differing;
+        }
         let is_wide = |column: usize| self.columns(column) == 2 || shown.columns(column) == 2;
         let mut spread = |column: usize| {
             if is_wide(column) && (differing[column] || differing[column + 1]) {

@@ -166,11 +166,10 @@ impl Row<'_> {
                 && !line.is_apart(column)
                 && terminal.has_pen(line.pen(column), line.is_blank(column))
         };
-        let cost = terminal.move_cost(to, self.number);
-        to - from < cost + cost
-            && line.columns(from) > 0
-            && line.texts(from, to).len() < cost
-            && (from..to).all(is_plain)
+        let mut texts = (from..to).filter(|column| line.columns(*column) > 0);
+        line.columns(from) > 0
+            && line.texts(from, to).len() < terminal.move_cost(to, self.number)
+            && texts.all(is_plain)
             && !line.is_apart(to)
     }
 }

@@ -57,6 +57,9 @@ fn width(character: char, widths: Widths) -> usize {
 ///
 /// [`Error::Memory`].
 pub(super) fn joins(text: &str, behind: &str, widths: Widths) -> Result<bool, Error> {
+    if text.is_ascii() && behind.is_ascii() {
+        return Ok(false);
+    }
     let (last, first) = (text.chars().next_back(), behind.chars().next());
     if last.map_or(true, stays_alone) && first.map_or(true, stays_alone) {
         return Ok(false);

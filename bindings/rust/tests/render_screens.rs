@@ -239,13 +239,14 @@ fn shown_row(screen: &Screen, row: usize, width: usize) -> Vec<Glyph> {
             }
         }
         let link = cell.attrs().hyperlink().and_then(|it| link(it.uri()));
-        let pen = shown_pen(cell.attrs(), text == " ");
+        let pen = shown_pen(cell.attrs(), text.chars().all(|it| it == ' '));
+        let is_blank = text.chars().all(|it| it == ' ');
         for column in 0..columns {
             glyphs.push(Glyph {
-                text: if column == 0 {
-                    text.clone()
-                } else {
-                    String::new()
+                text: match column {
+                    _ if is_blank => " ".into(),
+                    0 => text.clone(),
+                    _ => String::new(),
                 },
                 pen: pen.clone(),
                 link: link.clone(),
@@ -254,6 +255,14 @@ fn shown_row(screen: &Screen, row: usize, width: usize) -> Vec<Glyph> {
     }
     glyphs.resize(width, Glyph::blank(ColorAttribute::Default));
     glyphs
+}
+
+/// Whether a glyph is seen as this one.
+fn is_seen_as(glyph: &Glyph, wanted: &Glyph) -> bool {
+    let is_blank = glyph.text == " ";
+    glyph.text == wanted.text
+        && glyph.link == wanted.link
+        && (glyph.pen == wanted.pen || shown_pen(&glyph.pen, is_blank) == wanted.pen)
 }
 
 /// What is seen of the terminal.
@@ -295,6 +304,13 @@ fn check(model: &Model, screen: &Screen, what: &str) {
 /// Compares each text of a row. Where characters are measured one by one, those of a text may stand
 /// in columns of their own, and some texts are shown in another way.
 fn check_row(row: &[Glyph], wanted: &[Glyph], measure: Measure, what: &str) {
+    if row
+        .iter()
+        .zip(wanted)
+        .all(|(glyph, wanted)| is_seen_as(glyph, wanted))
+    {
+        return;
+    }
     let mut column = 0;
     while column < wanted.len() {
         let begin = column;
@@ -375,8 +391,8 @@ fn check_end(model: &Model) {
 
 #[test]
 fn screens_are_shown() {
-    let (screens, scrolls) = play(400, |options| options, |_| {});
-    assert_eq!(screens, 4800);
+    let (screens, scrolls) = play(300, |options| options, |_| {});
+    assert_eq!(screens, 3600);
     assert!(scrolls > 100, "{scrolls} scrolls");
 }
 
@@ -388,7 +404,7 @@ fn screens_are_shown_by_updates_that_are_synchronized() {
 #[test]
 fn screens_are_shown_where_erased_cells_have_no_background() {
     play(
-        200,
+        100,
         |options| options.erases_with_background(false),
         |model| model.erases_with_background = false,
     );
@@ -397,7 +413,7 @@ fn screens_are_shown_where_erased_cells_have_no_background() {
 #[test]
 fn screens_are_shown_where_characters_are_measured_one_by_one() {
     play(
-        400,
+        200,
         |options| options,
         |model| model.measure = Measure::Characters,
     );
@@ -405,7 +421,7 @@ fn screens_are_shown_where_characters_are_measured_one_by_one() {
 
 #[test]
 fn changes_are_shown() {
-    for seed in 0..200 {
+    for seed in 0..120 {
         let mut random = Random::new(seed + 1000);
         let (width, height) = random.one_of(&SIZES);
         let mut surface = Surface::new(width, height).unwrap();
@@ -522,7 +538,7 @@ fn lines_may_be_large() {
                 };
                 assert_eq!(model.lines[number], code, "seed {seed}, step {step}");
                 let wanted = shown_row(&surface, number, width);
-                let what = format!("seed {seed}, step {step}, row {number}");
+                let what = format!("seed {seed}, step {step}");
                 check_row(&row[..width], &wanted, model.measure, &what);
             }
         }

@@ -114,47 +114,51 @@ impl Line {
     /// Adds a cell with the last pen. Of a wide one that crosses the edge a blank is shown.
     fn add_cell(&mut self, cell: &RowCell, limit: usize, screen: &Screen) -> Result<(), Error> {
         let room = limit - self.len();
-        let columns = cell.width().max(1);
-        let text = if columns > room { " " } else { cell.str() };
-        let shown = shown(text, columns.min(room), screen.widths());
-        let last = self.pens.len() - 1;
-        let is_blank = shown.text == " ";
-        let begin = self.text.len();
-        let before = match self.cells.last() {
-            Some(cell) if !is_blank => &self.text[cell.begin..cell.end],
-            _ => "",
-        };
+        let columns = cell.width().clamp(1, room);
+        let text = if cell.width() > room { " " } else { cell.str() };
+        let shown = shown(text, columns, screen.widths());
+        let pen = self.pens.len() - 1;
+        if shown.text.bytes().all(|byte| byte == b' ') {
+            (0..columns).for_each(|_| self.push_blank(pen - 1));
+            return Ok(());
+        }
+        let before = self.cells.last();
+        let before = before.map_or("", |cell| &self.text[cell.begin..cell.end]);
         let is_apart = joins(before, &shown.text, screen.widths())?;
+        self.is_plain &= columns == 1 && shown.columns == 1;
+        let begin = self.text.len();
         self.text.push_str(&shown.text);
-        let cell = Cell {
-            begin,
-            end: self.text.len(),
-            columns: columns.min(room),
-            pen: if is_blank { last - 1 } else { last },
-            by_characters: shown.columns,
-            is_apart,
-        };
-        self.is_plain &= cell.columns == 1 && cell.by_characters == 1;
-        for column in 0..cell.columns {
-            let columns = if column == 0 { cell.columns } else { 0 };
-            self.cells.push(Cell { columns, ..cell });
+        let end = self.text.len();
+        for column in 0..columns {
+            self.cells.push(Cell {
+                begin,
+                end,
+                columns: if column == 0 { columns } else { 0 },
+                pen,
+                by_characters: shown.columns,
+                is_apart,
+            });
         }
         Ok(())
+    }
+
+    fn push_blank(&mut self, pen: usize) {
+        let begin = self.text.len();
+        self.text.push(' ');
+        self.cells.push(Cell {
+            begin,
+            end: begin + 1,
+            columns: 1,
+            pen,
+            by_characters: 1,
+            is_apart: false,
+        });
     }
 
     /// Adds default blanks up to so many columns.
     fn fill(&mut self, columns: usize) {
         while self.len() < columns {
-            let begin = self.text.len();
-            self.text.push(' ');
-            self.cells.push(Cell {
-                begin,
-                end: begin + 1,
-                columns: 1,
-                pen: 0,
-                by_characters: 1,
-                is_apart: false,
-            });
+            self.push_blank(0);
         }
     }
 

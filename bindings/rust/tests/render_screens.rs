@@ -274,12 +274,12 @@ fn seen_row(row: &[Glyph]) -> Vec<Glyph> {
     glyphs.collect()
 }
 
-/// Whether terminals measure a text in two ways.
-fn is_uncertain(text: &str) -> bool {
-    let by_characters = text
+/// The columns of a text where its characters are measured one by one.
+fn columns_by_characters(text: &str) -> usize {
+    let columns = text
         .chars()
         .map(|it| text_width(&it.to_string(), Widths::Unicode));
-    by_characters.sum::<usize>() != text_width(text, Widths::Unicode)
+    columns.sum()
 }
 
 /// Compares all that is seen.
@@ -302,7 +302,8 @@ fn check(model: &Model, screen: &Screen, what: &str) {
 }
 
 /// Compares each text of a row. Where characters are measured one by one, those of a text may stand
-/// in columns of their own, and some texts are shown in another way.
+/// in columns of their own, and some texts are shown in another way: one that takes fewer columns
+/// has blanks behind it.
 fn check_row(row: &[Glyph], wanted: &[Glyph], measure: Measure, what: &str) {
     if row
         .iter()
@@ -323,7 +324,13 @@ fn check_row(row: &[Glyph], wanted: &[Glyph], measure: Measure, what: &str) {
         }
         let (mut seen, wanted) = (row[begin..column].to_vec(), &wanted[begin..column]);
         if measure == Measure::Characters {
-            if is_uncertain(&wanted[0].text) {
+            let by_characters = columns_by_characters(&wanted[0].text);
+            if by_characters != text_width(&wanted[0].text, Widths::Unicode) {
+                let behind = seen.iter().skip(by_characters);
+                assert!(
+                    behind.into_iter().all(|glyph| glyph.text == " "),
+                    "{what}, column {begin}"
+                );
                 continue;
             }
             seen[0].text = seen.iter().map(|glyph| glyph.text.as_str()).collect();

@@ -214,9 +214,9 @@ impl Line {
         blanks.count()
     }
 
-    /// For each column whether it has to be written where another row is shown. A wide text of
-    /// either row is written, or written over, whole, and so is what a text may cover on terminals
-    /// that measure it otherwise.
+    /// For each column whether it has to be written where another row is shown: where the texts
+    /// differ that take it, and where a text that differs may cover it on terminals that measure
+    /// that otherwise.
     pub fn differing(&self, shown: &Line) -> Vec<bool> {
         if self == shown {
             return vec![false; self.len()];
@@ -227,22 +227,15 @@ impl Line {
         let mut differing: Vec<_> = (0..self.len())
             .map(|column| !self.is_same(shown, column))
             .collect();
-        if self.is_plain && shown.is_plain {
+        if self.is_plain {
             return differing;
         }
-        let is_wide = |column: usize| self.columns(column) == 2 || shown.columns(column) == 2;
-        let mut spread = |column: usize| {
-            if is_wide(column) && (differing[column] || differing[column + 1]) {
-                differing[column..column + 2].fill(true);
-            }
+        for column in 0..self.len() {
             if differing[column] && self.columns(column) > 0 && !self.is_certain(column) {
                 let end = column + self.columns_by_characters(column);
                 differing[column..self.len().min(end)].fill(true);
             }
-        };
-        (0..self.len()).for_each(&mut spread);
-        (0..self.len()).rev().for_each(&mut spread);
-        (0..self.len()).for_each(&mut spread);
+        }
         differing
     }
 

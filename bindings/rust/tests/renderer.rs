@@ -44,7 +44,8 @@ fn seen(screen: &Screen) -> Seen {
     )
 }
 
-/// A cell's text and attributes: of those of a blank, what is seen.
+/// A cell's text and attributes: of a mark in a cell of its own, which stands on a space, the mark,
+/// and of a blank's attributes what is seen.
 fn seen_cell(cell: &Cell) -> (String, Attributes) {
     let mut pen = cell.attrs().clone();
     let has_marks = pen.reverse || pen.strikethrough || pen.underline != Underline::None;
@@ -54,7 +55,8 @@ fn seen_cell(cell: &Cell) -> (String, Attributes) {
             ..Attributes::default()
         };
     }
-    (cell.str().into(), pen)
+    let mark = cell.str().strip_prefix(' ').filter(|mark| !mark.is_empty());
+    (mark.unwrap_or(cell.str()).into(), pen)
 }
 
 #[test]

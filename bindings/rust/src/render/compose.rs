@@ -84,8 +84,11 @@ impl Renderer {
     fn write_lines(&mut self, mut shown: Vec<Line>, wanted: &[Line]) {
         let (terminal, options) = (&mut self.terminal, &self.options);
         if !options.line_attributes {
-            for scroll in scrolls::find(&mut shown, wanted) {
-                terminal.scroll(&scroll, options.height);
+            for _ in 0..scrolls::MOST {
+                let Some(scroll) = scrolls::find(&shown, wanted) else {
+                    break;
+                };
+                rows::scroll(terminal, options, &scroll, &mut shown, wanted);
             }
         }
         rows::write(terminal, options, &shown, wanted);

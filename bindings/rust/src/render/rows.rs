@@ -3,6 +3,7 @@
 use super::line::Line;
 use super::moves::by;
 use super::options::Options;
+use super::scrolls::Scroll;
 use super::terminal::Terminal;
 
 /// How many blanks at the end of a row are erased and not printed. That takes up to a byte more,
@@ -36,6 +37,40 @@ pub(super) fn write(terminal: &mut Terminal, options: &Options, shown: &[Line], 
         terminal.move_to(0, end + row);
         terminal.set_erasing_pen(wanted[end].pen(0));
         terminal.erase_to_end_of_screen();
+    }
+}
+
+/// Scrolls rows. Where all go up from the last one, and the cursor is there, as where a program
+/// prints lines, each row is written before it goes up.
+pub(super) fn scroll(
+    terminal: &mut Terminal,
+    options: &Options,
+    scroll: &Scroll,
+    shown: &mut [Line],
+    wanted: &[Line],
+) {
+    let (height, last) = (options.height, options.height - 1);
+    let is_whole = scroll.up && (scroll.top, scroll.bottom) == (0, height);
+    if !is_whole || terminal.row() != Some(last) {
+        terminal.scroll(scroll, height);
+        scroll.apply(shown);
+        return;
+    }
+    let by_one = Scroll {
+        count: 1,
+        ..*scroll
+    };
+    for line in &wanted[last - scroll.count..last] {
+        let row = Row {
+            number: last,
+            line,
+            differing: &line.differing(&shown[last]),
+            options,
+        };
+        row.write(terminal);
+        shown[last].clone_from(line);
+        terminal.scroll(&by_one, height);
+        by_one.apply(shown);
     }
 }
 

@@ -4,7 +4,7 @@ use super::line::Line;
 use std::collections::HashMap;
 
 /// How many scrolls are looked for at most.
-const MOST: usize = 4;
+pub(super) const MOST: usize = 4;
 
 /// What a scroll takes about, in bytes: in a region, and of all rows up to the last one.
 const REGION: isize = 14;
@@ -24,7 +24,7 @@ pub(super) struct Scroll {
 
 impl Scroll {
     /// Scrolls rows.
-    fn apply(&self, lines: &mut [Line]) {
+    pub fn apply(&self, lines: &mut [Line]) {
         let lines = &mut lines[self.top..self.bottom];
         let width = lines[0].len();
         let attribute = lines[0].attribute;
@@ -39,34 +39,24 @@ impl Scroll {
     }
 }
 
-/// Finds scrolls that save more than they take, and makes them on what is shown.
-pub(super) fn find(shown: &mut [Line], wanted: &[Line]) -> Vec<Scroll> {
+/// Finds the scroll that saves the most, if one saves more than it takes.
+pub(super) fn find(shown: &[Line], wanted: &[Line]) -> Option<Scroll> {
+    let pairs = shown.iter().zip(wanted);
+    let costs: Vec<_> = pairs.map(|(shown, wanted)| cost(wanted, shown)).collect();
+    if costs.iter().sum::<isize>() <= LINES {
+        return None;
+    }
     let blank = Line::blank(wanted[0].len(), wanted[0].attribute);
     let blank_costs: Vec<_> = wanted.iter().map(|line| cost(line, &blank)).collect();
-    let mut scrolls = Vec::new();
-    while scrolls.len() < MOST {
-        let costs: Vec<_> = shown
-            .iter()
-            .zip(wanted)
-            .map(|(shown, wanted)| cost(wanted, shown))
-            .collect();
-        if costs.iter().sum::<isize>() <= LINES {
-            break;
-        }
-        let (shown_lines, wanted_lines) = numbers(shown, wanted);
-        let search = Search {
-            shown: &shown_lines,
-            wanted: &wanted_lines,
-            costs: &costs,
-            blank_costs: &blank_costs,
-        };
-        let Some(scroll) = search.best() else {
-            break;
-        };
-        scroll.apply(shown);
-        scrolls.push(scroll);
-    }
-    scrolls
+    let numbers = numbers(shown, wanted);
+    let search = Search {
+        shown,
+        wanted,
+        numbers,
+        costs,
+        blank_costs,
+    };
+    search.best()
 }
 
 /// What a row takes about, in bytes: its texts that differ, and an erase of blanks.
@@ -93,20 +83,26 @@ fn numbers(shown: &[Line], wanted: &[Line]) -> (Vec<usize>, Vec<usize>) {
     (shown, wanted.iter().map(&mut number).collect())
 }
 
-/// The numbers of rows, and what each takes: as all is, and on blanks.
+/// The rows, the numbers of those that are shown and of those that are wanted, and what each of the
+/// wanted ones takes: as all is, and on blanks.
 struct Search<'a> {
-    shown: &'a [usize],
-    wanted: &'a [usize],
-    costs: &'a [isize],
-    blank_costs: &'a [isize],
+    shown: &'a [Line],
+    wanted: &'a [Line],
+    numbers: (Vec<usize>, Vec<usize>),
+    costs: Vec<isize>,
+    blank_costs: Vec<isize>,
 }
 
 impl Search<'_> {
-    /// The scroll that saves the most, if one saves anything.
+    /// The scroll that saves the most, if one saves anything. Only those are looked at that bring
+    /// rows which take more than a scroll does.
     fn best(&self) -> Option<Scroll> {
         let mut best = (0, None);
         for count in 1..self.shown.len() {
             for up in [true, false] {
+                if self.brought(count, up) <= LINES {
+                    continue;
+                }
                 let (saved, scroll) = self.best_by(count, up);
                 if saved > best.0 {
                     best = (saved, Some(scroll));
@@ -116,10 +112,22 @@ impl Search<'_> {
         best.1
     }
 
+    /// What the rows take that a scroll of all by so many would bring.
+    fn brought(&self, count: usize, up: bool) -> isize {
+        let (to, from) = places(count, up);
+        let rows = 0..self.shown.len() - count;
+        let brought = rows.filter(|row| self.is_brought(row + to, row + from));
+        brought.map(|row| self.costs[row + to]).sum()
+    }
+
+    fn is_brought(&self, row: usize, from: usize) -> bool {
+        self.numbers.1[row] == self.numbers.0[from]
+    }
+
     /// The scroll by so many rows that saves the most, and what it saves.
     fn best_by(&self, count: usize, up: bool) -> (isize, Scroll) {
         let height = self.shown.len();
-        let (to, from) = if up { (0, count) } else { (count, 0) };
+        let (to, from) = places(count, up);
         let blanks = self.blanks_saved(count);
         // The rows that are moved are those from `begin` to `end`, and `sum` is what all before
         // `end` save. Blanks come in behind them, or before them.
@@ -149,21 +157,30 @@ impl Search<'_> {
         (saved, scroll)
     }
 
-    /// What a row saves where it shows what another one did.
+    /// What a row saves, or else takes more, where it shows what another one did.
     fn saved(&self, row: usize, from: usize) -> isize {
-        if self.wanted[row] == self.shown[from] {
+        if self.is_brought(row, from) {
             self.costs[row]
         } else {
-            (self.costs[row] - self.blank_costs[row]).min(0)
+            self.costs[row] - cost(&self.wanted[row], &self.shown[from])
         }
     }
 
     /// For each row what is saved where so many from there on are blank: nothing, or less.
     fn blanks_saved(&self, count: usize) -> Vec<isize> {
-        let pairs = self.costs.iter().zip(self.blank_costs);
+        let pairs = self.costs.iter().zip(&self.blank_costs);
         let saved: Vec<_> = pairs.map(|(cost, blank)| (cost - blank).min(0)).collect();
         let sums = saved.windows(count).map(|rows| rows.iter().sum());
         sums.collect()
+    }
+}
+
+/// How far below the first rows those begin that are brought, and those that they come from.
+fn places(count: usize, up: bool) -> (usize, usize) {
+    if up {
+        (0, count)
+    } else {
+        (count, 0)
     }
 }
 
@@ -209,7 +226,12 @@ mod tests {
             ),
         ] {
             let mut now = lines(shown);
-            assert_eq!(find(&mut now, &lines(wanted)), scrolls, "{shown} {wanted}");
+            let mut found = Vec::new();
+            while let Some(scroll) = find(&now, &lines(wanted)) {
+                scroll.apply(&mut now);
+                found.push(scroll);
+            }
+            assert_eq!(found, scrolls, "{shown} {wanted}");
             assert!(now == lines(left), "{shown} {wanted}");
         }
     }

@@ -90,6 +90,14 @@ impl Terminal {
         self.shortest(column, row).len()
     }
 
+    /// The cursor's row, where it is known.
+    pub fn row(&self) -> Option<usize> {
+        match self.place {
+            Place::At(_, row) | Place::Row(row) => Some(row),
+            Place::Unknown => None,
+        }
+    }
+
     /// The column on this row, where it is known.
     pub fn column(&self, row: usize) -> Option<usize> {
         match self.place {

@@ -28,7 +28,7 @@ const TEXTS: [&str; 12] = [
     "\r\n",
     "\n",
     "×",
-    "0123456789",
+    "01234567",
 ];
 
 /// A server of tmux with one pane, in a folder of its own.

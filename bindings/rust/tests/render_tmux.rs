@@ -14,8 +14,7 @@ use tikeburo::{
 const WIDTH: usize = 40;
 const HEIGHT: usize = 12;
 
-/// Texts that tmux measures as Unicode does. Of pens, what its version 3.3 prints again is taken: no
-/// lines above texts, and no links.
+/// Texts that tmux measures as Unicode does.
 const TEXTS: [&str; 12] = [
     "a",
     "words of a line ",
@@ -103,6 +102,7 @@ fn below(state: &mut u64, limit: usize) -> usize {
     (*state >> 33) as usize % limit
 }
 
+/// A pen that `capture-pane` of tmux 3.3 prints as it is: without a line above texts, and a link.
 fn pen(state: &mut u64) -> Attributes {
     let mut rarely = || below(state, 4) == 0;
     let (italic, reverse, strikethrough) = (rarely(), rarely(), rarely());

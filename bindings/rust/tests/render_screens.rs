@@ -7,9 +7,9 @@ use render_model::{Glyph, Measure, Model};
 use std::io::{self, Write};
 use tikeburo::render::{Error, Options, Renderer};
 use tikeburo::{
-    text_width, AttributeChange, Attributes, Blink, Changes, ColorAttribute, CursorShape,
-    CursorVisibility, Hyperlink, Intensity, LineAttribute, Position, RgbColor, Screen, Surface,
-    Underline, Widths,
+    graphemes, text_width, AttributeChange, Attributes, Blink, Changes, ColorAttribute,
+    CursorShape, CursorVisibility, Hyperlink, Intensity, LineAttribute, Position, RgbColor, Screen,
+    Surface, Underline, Widths,
 };
 
 const TEXTS: [&str; 32] = [
@@ -234,7 +234,8 @@ fn shown_row(screen: &Screen, row: usize, width: usize) -> Vec<Glyph> {
             text = " ".into();
         } else if text_width(&text.chars().take(1).collect::<String>(), Widths::Unicode) == 0 {
             text.insert(0, ' ');
-            if text_width(&text, Widths::Unicode) > columns {
+            let is_whole = graphemes(&text, Widths::Unicode).unwrap().len() == 1;
+            if !is_whole || text_width(&text, Widths::Unicode) > columns {
                 text = " ".repeat(columns);
             }
         }

@@ -116,7 +116,7 @@ impl Line {
         let room = limit - self.len();
         let columns = cell.width().clamp(1, room);
         let text = if cell.width() > room { " " } else { cell.str() };
-        let shown = shown(text, columns, screen.widths());
+        let shown = shown(text, columns, screen.widths())?;
         let pen = self.pens.len() - 1;
         if shown.text.bytes().all(|byte| byte == b' ') {
             (0..columns).for_each(|_| self.push_blank(pen - 1));
@@ -200,6 +200,13 @@ impl Line {
     /// Whether this text would be one grapheme with the one before it.
     pub fn is_apart(&self, column: usize) -> bool {
         self.cells[column].is_apart
+    }
+
+    /// Whether this is the second column of a wide text.
+    pub fn is_second_half(&self, column: usize) -> bool {
+        self.cells
+            .get(column)
+            .map_or(false, |cell| cell.columns == 0)
     }
 
     pub fn is_blank(&self, column: usize) -> bool {

@@ -26,6 +26,7 @@ pub(super) fn write(terminal: &mut Terminal, options: &Options, shown: &[Line], 
         }
         let row = Row {
             number,
+            shown: &shown[number],
             line,
             differing,
             options,
@@ -63,6 +64,7 @@ pub(super) fn scroll(
     for line in &wanted[last - scroll.count..last] {
         let row = Row {
             number: last,
+            shown: &shown[last],
             line,
             differing: &line.differing(&shown[last]),
             options,
@@ -96,6 +98,7 @@ fn blank_end(options: &Options, wanted: &[Line], rows: &[Vec<bool>]) -> usize {
 /// A row, and its columns that differ from what is shown.
 struct Row<'a> {
     number: usize,
+    shown: &'a Line,
     line: &'a Line,
     differing: &'a [bool],
     options: &'a Options,
@@ -127,7 +130,9 @@ impl Row<'_> {
         let blanks = begin..begin + line.blanks(begin);
         let last = blanks.clone().rev().find(|it| self.differing[*it])?;
         let count = last + 1 - begin;
-        let is_short = if blanks.end == line.len() {
+        let is_short = if self.shown.is_second_half(last + 1) {
+            false // some terminals would blank what was erased as they write over the other half
+        } else if blanks.end == line.len() {
             count >= ERASED_AT_END
         } else {
             let behind = self.next(last + 1).map_or(0, |_| by(count, 'C').len());

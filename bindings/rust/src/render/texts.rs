@@ -14,32 +14,37 @@ pub(super) struct Shown<'a> {
 }
 
 /// The text to send for a cell of so many columns. Control characters are left out. A text whose
-/// first character takes no column, and would join the cell before, stands on a space, and blanks
+/// first character takes no column stands on a space, which it joins, or else is left out. Blanks
 /// are added to what is too short, or replace what is too long.
-pub(super) fn shown(text: &str, columns: usize, widths: Widths) -> Shown<'_> {
+///
+/// # Errors
+///
+/// [`Error::Memory`].
+pub(super) fn shown(text: &str, columns: usize, widths: Widths) -> Result<Shown<'_>, Error> {
     if columns == 1 && is_printable(text) {
-        return Shown {
+        return Ok(Shown {
             text: text.into(),
             columns,
-        };
+        });
     }
     let mut text = Cow::from(text);
     if text.contains(char::is_control) {
         text.to_mut().retain(|it| !it.is_control());
     }
-    if text
-        .chars()
-        .next()
-        .map_or(true, |it| width(it, widths) == 0)
-    {
-        text.to_mut().insert(0, ' ');
+    let first = text.chars().next();
+    if first.map_or(true, |it| width(it, widths) == 0) {
+        text = if joins(" ", &text, widths)? {
+            [" ", &text].concat().into()
+        } else {
+            " ".into()
+        };
     }
     match text_width(&text, widths) {
         measured if measured > columns => text = " ".repeat(columns).into(),
         measured => text.to_mut().push_str(&" ".repeat(columns - measured)),
     }
     let columns = text.chars().map(|it| width(it, widths)).sum();
-    Shown { text, columns }
+    Ok(Shown { text, columns })
 }
 
 /// Whether a text is one printable character of ASCII.
@@ -111,12 +116,13 @@ mod tests {
             ("", 1, " ", 1),
             ("", 2, "  ", 2),
             ("\u{301}", 1, " \u{301}", 1),
+            ("\u{1161}", 1, " ", 1),
             ("\u{7f}", 1, " ", 1),
             ("a\u{9b}\x1b", 1, "a", 1),
             ("☂\u{fe0f}", 2, "☂\u{fe0f}", 1),
             ("👩‍🚀", 2, "👩‍🚀", 4),
         ] {
-            let shown = shown(text, columns, Widths::Unicode);
+            let shown = shown(text, columns, Widths::Unicode).unwrap();
             assert_eq!(shown.text, wanted, "{text:?}");
             assert_eq!(shown.columns, by_characters, "{text:?}");
         }

@@ -56,6 +56,7 @@ mod settings;
 mod sgr;
 mod terminal;
 mod texts;
+mod version;
 
 pub use colors::Colors;
 pub use error::Error;
@@ -69,7 +70,9 @@ use line::Line;
 use pen::Pen;
 use std::fmt;
 use std::io::Write;
+use std::rc::Rc;
 use terminal::Terminal;
+use version::Version;
 
 /// Writes to a terminal what it lacks of a screen.
 ///
@@ -80,10 +83,16 @@ pub struct Renderer {
     options: Options,
     terminal: Terminal,
     /// What the terminal shows, where that is known.
-    lines: Option<Vec<Line>>,
+    shown: Option<Shown>,
     /// What changes are made on.
     surface: Option<Surface>,
     buffer: RowBuffer,
+}
+
+/// The rows of a terminal, and of which surface they were read, if of one.
+struct Shown {
+    lines: Vec<Rc<Line>>,
+    version: Option<Version>,
 }
 
 impl Renderer {
@@ -93,7 +102,7 @@ impl Renderer {
         Renderer {
             terminal: Terminal::new(&options),
             options,
-            lines: None,
+            shown: None,
             surface: None,
             buffer: RowBuffer::new(),
         }
@@ -228,13 +237,13 @@ impl Renderer {
     /// # Ok::<(), Box<dyn std::error::Error>>(())
     /// ```
     pub fn assume(&mut self, screen: &Screen) -> Result<(), Error> {
-        self.lines = Some(self.read(screen)?);
+        self.shown = Some(self.read(screen)?);
         Ok(())
     }
 
     /// Takes it that nothing is known of the terminal: the next write resets it, and draws all.
     pub fn reset(&mut self) {
-        self.lines = None;
+        self.shown = None;
         self.terminal.forget();
     }
 
@@ -273,7 +282,7 @@ impl Renderer {
     where
         W: Write + ?Sized,
     {
-        if self.lines.is_none() {
+        if self.shown.is_none() {
             self.recover();
         }
         self.terminal.set_pen(&Pen::default());

@@ -3,11 +3,13 @@
 use super::error::Error;
 use super::line::Line;
 use super::terminal::Terminal;
-use super::{rows, scrolls, Renderer};
+use super::version::Version;
+use super::{rows, scrolls, Renderer, Shown};
 use crate::change::{CursorVisibility, LineAttribute};
 use crate::screen::Screen;
 use crate::surface::{self, Surface};
 use std::io::Write;
+use std::rc::Rc;
 
 impl Renderer {
     pub(super) fn new_surface(&self) -> Result<Surface, crate::Error> {
@@ -21,7 +23,7 @@ impl Renderer {
     /// Appends to the terminal's bytes what it lacks of a screen.
     pub(super) fn compose(&mut self, screen: &Screen) -> Result<(), Error> {
         let wanted = self.read(screen)?;
-        let shown = self.lines.take();
+        let shown = self.shown.take();
         if shown.is_none() {
             self.recover();
         }
@@ -31,10 +33,13 @@ impl Renderer {
         }
         let opened = self.terminal.bytes.len();
         self.write_state(screen)?;
-        let shown = shown.unwrap_or_else(|| self.cleared());
-        self.write_lines(shown, &wanted);
-        self.write_cursor(screen, &wanted);
-        self.lines = Some(wanted);
+        let shown = match shown {
+            Some(shown) => shown.lines,
+            None => self.cleared(),
+        };
+        self.write_lines(shown, &wanted.lines);
+        self.write_cursor(screen, &wanted.lines);
+        self.shown = Some(wanted);
         if self.terminal.bytes.len() == opened {
             self.terminal.bytes.truncate(begin);
         } else if self.options.synchronized {
@@ -52,19 +57,39 @@ impl Renderer {
     }
 
     /// Clears the terminal, and returns what it shows then.
-    fn cleared(&mut self) -> Vec<Line> {
+    fn cleared(&mut self) -> Vec<Rc<Line>> {
         self.terminal.clear();
         let usual = (!self.options.line_attributes).then_some(LineAttribute::SingleWidthLine);
         let (width, height) = self.options.size();
-        vec![Line::blank(width, usual); height]
+        vec![Rc::new(Line::blank(width, usual)); height]
     }
 
-    /// What the terminal shows of a screen.
-    pub(super) fn read(&mut self, screen: &Screen) -> Result<Vec<Line>, crate::Error> {
-        let rows = 0..self.options.height;
-        let (buffer, options) = (&mut self.buffer, &self.options);
-        rows.map(|row| Line::read(screen, row, buffer, options))
-            .collect()
+    /// What the terminal shows of a screen. Rows that are as they were shown are those same ones.
+    pub(super) fn read(&mut self, screen: &Screen) -> Result<Shown, crate::Error> {
+        let version = Version::of(screen);
+        let shown = self.shown.as_ref();
+        let changed = match (version, shown.and_then(|shown| shown.version)) {
+            (Some(version), Some(old)) => version.changed_rows(old, screen)?,
+            _ => None,
+        };
+        let mut lines = Vec::with_capacity(self.options.height);
+        for row in 0..self.options.height {
+            let old = shown.map(|shown| &shown.lines[row]);
+            let is_changed = changed
+                .as_ref()
+                .map_or(true, |rows| rows.get(row) != Some(&0));
+            lines.push(match old {
+                Some(old) if !is_changed => Rc::clone(old),
+                _ => {
+                    let line = Line::read(screen, row, &mut self.buffer, &self.options)?;
+                    match old {
+                        Some(old) if **old == line => Rc::clone(old),
+                        _ => Rc::new(line),
+                    }
+                }
+            });
+        }
+        Ok(Shown { lines, version })
     }
 
     /// Writes what isn't of the rows, but a cursor that is to be shown.
@@ -81,7 +106,7 @@ impl Renderer {
         Ok(())
     }
 
-    fn write_lines(&mut self, mut shown: Vec<Line>, wanted: &[Line]) {
+    fn write_lines(&mut self, mut shown: Vec<Rc<Line>>, wanted: &[Rc<Line>]) {
         let (terminal, options) = (&mut self.terminal, &self.options);
         if !options.line_attributes {
             for _ in 0..scrolls::MOST {
@@ -95,7 +120,7 @@ impl Renderer {
     }
 
     /// Puts the cursor where the screen has it. One behind the last column is in the last one.
-    fn write_cursor(&mut self, screen: &Screen, lines: &[Line]) {
+    fn write_cursor(&mut self, screen: &Screen, lines: &[Rc<Line>]) {
         let (column, row) = screen.cursor_position();
         let row = row.min(lines.len() - 1);
         let column = column.min(lines[row].len() - 1);

@@ -2,12 +2,13 @@
 
 use super::options::Options;
 use super::pen::{Link, Pen};
-use super::texts::{joins, shown};
+use super::texts::{is_printable, joins, shown};
 use crate::change::LineAttribute;
 use crate::error::Error;
 use crate::rows::{Row, RowBuffer, RowCell};
 use crate::screen::Screen;
 use std::hash::{Hash, Hasher};
+use std::ptr;
 use std::rc::Rc;
 
 /// What a row of the terminal shows: a cell for each column.
@@ -40,15 +41,16 @@ struct Cell {
 impl Line {
     /// A row of so many default blanks.
     pub fn blank(columns: usize, attribute: Option<LineAttribute>) -> Line {
-        let mut line = Line::empty(attribute);
+        let mut line = Line::empty(columns, attribute);
         line.fill(columns);
         line
     }
 
-    fn empty(attribute: Option<LineAttribute>) -> Line {
+    /// A row that has no column yet, and room for so many.
+    fn empty(columns: usize, attribute: Option<LineAttribute>) -> Line {
         Line {
-            text: String::new(),
-            cells: Vec::new(),
+            text: String::with_capacity(columns),
+            cells: Vec::with_capacity(columns),
             pens: vec![Pen::default()],
             attribute,
             is_plain: true,
@@ -83,7 +85,7 @@ impl Line {
             (options.width / 2).max(1)
         };
         row.read(buffer)?;
-        let mut line = Line::empty(Some(attribute));
+        let mut line = Line::empty(columns, Some(attribute));
         let mut run = None;
         for cell in buffer.cells() {
             if line.len() >= columns {
@@ -116,8 +118,12 @@ impl Line {
         let room = limit - self.len();
         let columns = cell.width().clamp(1, room);
         let text = if cell.width() > room { " " } else { cell.str() };
-        let shown = shown(text, columns, screen.widths())?;
         let pen = self.pens.len() - 1;
+        if columns == 1 && is_printable(text) && self.ends_in_ascii() {
+            self.push_printable(text, pen);
+            return Ok(());
+        }
+        let shown = shown(text, columns, screen.widths())?;
         if shown.text.bytes().all(|byte| byte == b' ') {
             (0..columns).for_each(|_| self.push_blank(pen - 1));
             return Ok(());
@@ -142,9 +148,24 @@ impl Line {
         Ok(())
     }
 
+    /// Whether what is printable in ASCII is no part of a grapheme with the text before it.
+    fn ends_in_ascii(&self) -> bool {
+        self.text.as_bytes().last().map_or(true, u8::is_ascii)
+    }
+
+    /// Adds a printable character of ASCII, with this pen or the one of its blanks.
+    fn push_printable(&mut self, text: &str, pen: usize) {
+        self.push_one(text, if text == " " { pen - 1 } else { pen });
+    }
+
     fn push_blank(&mut self, pen: usize) {
+        self.push_one(" ", pen);
+    }
+
+    /// Adds a text of one column, behind one that it can't join.
+    fn push_one(&mut self, text: &str, pen: usize) {
         let begin = self.text.len();
-        self.text.push(' ');
+        self.text.push_str(text);
         self.cells.push(Cell {
             begin,
             end: begin + 1,
@@ -210,30 +231,31 @@ impl Line {
     }
 
     pub fn is_blank(&self, column: usize) -> bool {
-        self.text(column) == " "
+        let cell = &self.cells[column];
+        cell.end - cell.begin == 1 && self.text.as_bytes()[cell.begin] == b' '
     }
 
     /// How many blanks of one pen there are from this column on.
     pub fn blanks(&self, column: usize) -> usize {
-        let pen = self.pen(column);
-        let blanks =
-            (column..self.len()).take_while(|it| self.is_blank(*it) && self.pen(*it) == pen);
-        blanks.count()
+        let mut pens = Compared::new(self, self);
+        let first = self.cells[column].pen;
+        let mut columns = column..self.len();
+        let end =
+            columns.find(|it| !self.is_blank(*it) || !pens.are_same(first, self.cells[*it].pen));
+        end.unwrap_or(self.len()) - column
     }
 
     /// For each column whether it has to be written where another row is shown: where the texts
     /// differ that take it, and where a text that differs may cover it on terminals that measure
-    /// that otherwise.
+    /// that otherwise. Nothing where the rows are equal.
     pub fn differing(&self, shown: &Line) -> Vec<bool> {
-        if self == shown {
-            return vec![false; self.len()];
+        if ptr::eq(self, shown) || self == shown {
+            return Vec::new();
         }
         if self.attribute != shown.attribute || self.len() != shown.len() {
             return vec![true; self.len()];
         }
-        let mut differing: Vec<_> = (0..self.len())
-            .map(|column| !self.is_same(shown, column))
-            .collect();
+        let mut differing = self.unequal(shown);
         if self.is_plain {
             return differing;
         }
@@ -246,10 +268,47 @@ impl Line {
         differing
     }
 
-    fn is_same(&self, other: &Line, column: usize) -> bool {
-        self.columns(column) == other.columns(column)
-            && self.text(column) == other.text(column)
-            && self.pen(column) == other.pen(column)
+    /// For each column whether the texts that take it differ.
+    fn unequal(&self, other: &Line) -> Vec<bool> {
+        let mut pens = Compared::new(self, other);
+        let pairs = self.cells.iter().zip(&other.cells);
+        let unequal = pairs.map(|(cell, another)| {
+            cell.columns != another.columns
+                || self.bytes(cell) != other.bytes(another)
+                || !pens.are_same(cell.pen, another.pen)
+        });
+        unequal.collect()
+    }
+
+    fn bytes(&self, cell: &Cell) -> &[u8] {
+        &self.text.as_bytes()[cell.begin..cell.end]
+    }
+}
+
+/// Compares pens of two rows. Cells beside one another have the same ones mostly, which are compared
+/// once.
+struct Compared<'a> {
+    pens: &'a [Pen],
+    others: &'a [Pen],
+    /// Which ones were compared last, and whether they are the same.
+    last: (usize, usize, bool),
+}
+
+impl<'a> Compared<'a> {
+    fn new(line: &'a Line, other: &'a Line) -> Compared<'a> {
+        let last = (0, 0, true); // each row's first one is the default pen
+        Compared {
+            pens: &line.pens,
+            others: &other.pens,
+            last,
+        }
+    }
+
+    fn are_same(&mut self, pen: usize, other: usize) -> bool {
+        if (self.last.0, self.last.1) != (pen, other) {
+            self.last = (pen, other, self.pens[pen] == self.others[other]);
+        }
+        self.last.2
     }
 }
 

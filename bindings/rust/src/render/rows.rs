@@ -5,13 +5,19 @@ use super::moves::by;
 use super::options::Options;
 use super::scrolls::Scroll;
 use super::terminal::Terminal;
+use std::rc::Rc;
 
 /// How many blanks at the end of a row are erased and not printed. That takes up to a byte more,
 /// but leaves the cursor where it is known to be.
 const ERASED_AT_END: usize = 2;
 
 /// Writes the rows that differ from those that are shown.
-pub(super) fn write(terminal: &mut Terminal, options: &Options, shown: &[Line], wanted: &[Line]) {
+pub(super) fn write(
+    terminal: &mut Terminal,
+    options: &Options,
+    shown: &[Rc<Line>],
+    wanted: &[Rc<Line>],
+) {
     let rows: Vec<_> = shown
         .iter()
         .zip(wanted)
@@ -19,6 +25,9 @@ pub(super) fn write(terminal: &mut Terminal, options: &Options, shown: &[Line], 
         .collect();
     let end = blank_end(options, wanted, &rows);
     for (number, (line, differing)) in wanted.iter().zip(&rows).enumerate().take(end) {
+        if differing.is_empty() {
+            continue;
+        }
         if line.attribute != shown[number].attribute {
             if let Some(attribute) = line.attribute {
                 terminal.set_line_attribute(number, attribute);
@@ -47,8 +56,8 @@ pub(super) fn scroll(
     terminal: &mut Terminal,
     options: &Options,
     scroll: &Scroll,
-    shown: &mut [Line],
-    wanted: &[Line],
+    shown: &mut [Rc<Line>],
+    wanted: &[Rc<Line>],
 ) {
     let (height, last) = (options.height, options.height - 1);
     let is_whole = scroll.up && (scroll.top, scroll.bottom) == (0, height);
@@ -78,13 +87,16 @@ pub(super) fn scroll(
 
 /// Where the rows begin that are erased at once: those at the end that are all blanks of one pen,
 /// where two at least differ. Else that is behind the last row.
-fn blank_end(options: &Options, wanted: &[Line], rows: &[Vec<bool>]) -> usize {
+fn blank_end(options: &Options, wanted: &[Rc<Line>], rows: &[Vec<bool>]) -> usize {
     let height = wanted.len();
     let Some(last) = wanted.last().filter(|_| !options.line_attributes) else {
         return height;
     };
+    if rows.iter().filter(|row| row.contains(&true)).count() < 2 {
+        return height;
+    }
     let pen = last.pen(0);
-    let is_blank = |line: &&Line| line.blanks(0) == line.len() && line.pen(0) == pen;
+    let is_blank = |line: &&Rc<Line>| line.blanks(0) == line.len() && line.pen(0) == pen;
     let count = wanted.iter().rev().take_while(is_blank).count();
     let begin = height - count;
     let differing = rows[begin..].iter().filter(|row| row.contains(&true));
@@ -95,7 +107,7 @@ fn blank_end(options: &Options, wanted: &[Line], rows: &[Vec<bool>]) -> usize {
     }
 }
 
-/// A row, and its columns that differ from what is shown.
+/// A row, and its columns that differ from what is shown, as [`Line::differing`] has them.
 struct Row<'a> {
     number: usize,
     shown: &'a Line,
@@ -117,8 +129,9 @@ impl Row<'_> {
 
     /// The first column from this one on that differs.
     fn next(&self, column: usize) -> Option<usize> {
-        let mut columns = column..self.line.len();
-        columns.find(|column| self.differing[*column])
+        let behind = self.differing.get(column..)?;
+        let count = behind.iter().position(|differs| *differs)?;
+        Some(column + count)
     }
 
     /// Up to where it takes fewer bytes to erase blanks from a column on than to print them.
@@ -221,7 +234,7 @@ mod tests {
 
     fn written(shown: &[&str], wanted: &[&str]) -> String {
         let [shown, wanted] = [shown, wanted]
-            .map(|rows| -> Vec<_> { rows.iter().map(|row| Line::of(row)).collect() });
+            .map(|rows| -> Vec<_> { rows.iter().map(|row| Rc::new(Line::of(row))).collect() });
         let options = Options::new(wanted[0].len(), wanted.len());
         let mut terminal = Terminal::new(&options);
         terminal.set_pen(&Pen::default());

@@ -2,6 +2,7 @@
 
 use super::line::Line;
 use std::collections::HashMap;
+use std::rc::Rc;
 
 /// How many scrolls are looked for at most.
 pub(super) const MOST: usize = 4;
@@ -24,7 +25,7 @@ pub(super) struct Scroll {
 
 impl Scroll {
     /// Scrolls rows.
-    pub fn apply(&self, lines: &mut [Line]) {
+    pub fn apply(&self, lines: &mut [Rc<Line>]) {
         let lines = &mut lines[self.top..self.bottom];
         let width = lines[0].len();
         let attribute = lines[0].attribute;
@@ -35,15 +36,18 @@ impl Scroll {
             lines.rotate_right(self.count);
             0..self.count
         };
-        lines[new].fill(Line::blank(width, attribute));
+        lines[new].fill(Rc::new(Line::blank(width, attribute)));
     }
 }
 
 /// Finds the scroll that saves the most, if one saves more than it takes.
-pub(super) fn find(shown: &[Line], wanted: &[Line]) -> Option<Scroll> {
+pub(super) fn find(shown: &[Rc<Line>], wanted: &[Rc<Line>]) -> Option<Scroll> {
     let pairs = shown.iter().zip(wanted);
     let costs: Vec<_> = pairs.map(|(shown, wanted)| cost(wanted, shown)).collect();
     if costs.iter().sum::<isize>() <= LINES {
+        return None;
+    }
+    if !are_any_moved(shown, wanted, &costs) {
         return None;
     }
     let blank = Line::blank(wanted[0].len(), wanted[0].attribute);
@@ -57,6 +61,12 @@ pub(super) fn find(shown: &[Line], wanted: &[Line]) -> Option<Scroll> {
         blank_costs,
     };
     search.best()
+}
+
+/// Whether a row that takes anything is one that is shown somewhere.
+fn are_any_moved(shown: &[Rc<Line>], wanted: &[Rc<Line>], costs: &[isize]) -> bool {
+    let mut costly = wanted.iter().zip(costs).filter(|(_, cost)| **cost > 0);
+    costly.any(|(line, _)| shown.contains(line))
 }
 
 /// What a row takes about, in bytes: its texts that differ, and an erase of blanks.
@@ -73,7 +83,7 @@ fn cost(wanted: &Line, shown: &Line) -> isize {
 }
 
 /// A number for each row: equal rows have equal ones.
-fn numbers(shown: &[Line], wanted: &[Line]) -> (Vec<usize>, Vec<usize>) {
+fn numbers(shown: &[Rc<Line>], wanted: &[Rc<Line>]) -> (Vec<usize>, Vec<usize>) {
     let mut numbers = HashMap::new();
     let mut number = |line| {
         let next = numbers.len();
@@ -86,8 +96,8 @@ fn numbers(shown: &[Line], wanted: &[Line]) -> (Vec<usize>, Vec<usize>) {
 /// The rows, the numbers of those that are shown and of those that are wanted, and what each of the
 /// wanted ones takes: as all is, and on blanks.
 struct Search<'a> {
-    shown: &'a [Line],
-    wanted: &'a [Line],
+    shown: &'a [Rc<Line>],
+    wanted: &'a [Rc<Line>],
     numbers: (Vec<usize>, Vec<usize>),
     costs: Vec<isize>,
     blank_costs: Vec<isize>,
@@ -188,8 +198,8 @@ fn places(count: usize, up: bool) -> (usize, usize) {
 mod tests {
     use super::*;
 
-    fn lines(letters: &str) -> Vec<Line> {
-        let line = |letter: char| Line::of(&letter.to_string().repeat(9));
+    fn lines(letters: &str) -> Vec<Rc<Line>> {
+        let line = |letter: char| Rc::new(Line::of(&letter.to_string().repeat(9)));
         letters.chars().map(line).collect()
     }
 

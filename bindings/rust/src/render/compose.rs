@@ -72,22 +72,22 @@ impl Renderer {
             (Some(version), Some(old)) => version.changed_rows(old, screen)?,
             _ => None,
         };
-        let mut lines = Vec::with_capacity(self.options.height);
-        for row in 0..self.options.height {
-            let old = shown.map(|shown| &shown.lines[row]);
-            let is_changed = changed
+        let old = shown.map_or(&[][..], |shown| &shown.lines);
+        let is_same = |row| {
+            changed
                 .as_ref()
-                .map_or(true, |rows| rows.get(row) != Some(&0));
-            lines.push(match old {
-                Some(old) if !is_changed => Rc::clone(old),
-                _ => {
+                .map_or(false, |rows| rows.get(row) == Some(&0))
+        };
+        let mut lines: Vec<Rc<Line>> = Vec::with_capacity(self.options.height);
+        for row in 0..self.options.height {
+            let line = match old.get(row).filter(|_| is_same(row)) {
+                Some(old) => Rc::clone(old),
+                None => {
                     let line = Line::read(screen, row, &mut self.buffer, &self.options)?;
-                    match old {
-                        Some(old) if **old == line => Rc::clone(old),
-                        _ => Rc::new(line),
-                    }
+                    shared(line, old, &lines)
                 }
-            });
+            };
+            lines.push(line);
         }
         Ok(Shown { lines, version })
     }
@@ -143,4 +143,12 @@ impl Renderer {
         }
         Ok(())
     }
+}
+
+/// A row, which is one of these where one is equal, so that they are compared by their place.
+fn shared(line: Line, old: &[Rc<Line>], new: &[Rc<Line>]) -> Rc<Line> {
+    let beside = old.get(new.len()).into_iter();
+    let mut rows = beside.chain(old).chain(new);
+    let equal = rows.find(|row| ***row == line);
+    equal.map_or_else(|| Rc::new(line), Rc::clone)
 }

@@ -2,27 +2,29 @@
 
 use super::options::Options;
 use super::pen::{Link, Pen};
-use super::texts::{is_printable, joins, shown};
+use super::texts::{joins, shown};
 use crate::change::LineAttribute;
 use crate::error::Error;
 use crate::rows::{Row, RowBuffer, RowCell};
 use crate::screen::Screen;
-use std::hash::{Hash, Hasher};
 use std::ptr;
 use std::rc::Rc;
 
-/// What a row of the terminal shows: a cell for each column.
+/// What a row of the terminal shows: a cell for each column. Rows that show the same are equal.
 #[derive(Clone, PartialEq, Eq)]
 pub(super) struct Line {
     text: String,
     cells: Vec<Cell>,
-    /// The pens of its cells. The first one is the default pen.
+    /// The pens of its cells, as they come first. The first one is the default pen.
     pens: Vec<Pen>,
     /// How large it is shown, where that is known.
     pub attribute: Option<LineAttribute>,
     /// Whether each text takes one column, on all terminals.
     is_plain: bool,
 }
+
+/// How many of a row's last pens are looked through for one that is to be added.
+const RECENT: usize = 8;
 
 /// A column of a row.
 #[derive(Clone, PartialEq, Eq)]
@@ -86,46 +88,43 @@ impl Line {
         };
         row.read(buffer)?;
         let mut line = Line::empty(columns, Some(attribute));
-        let mut run = None;
+        let mut runs = (usize::MAX, Run::default());
         for cell in buffer.cells() {
             if line.len() >= columns {
                 break;
             }
-            if run != Some(cell.run()) {
-                run = Some(cell.run());
-                line.add_pens(row, &cell, options)?;
+            if runs.0 != cell.run() {
+                runs = (cell.run(), Run::read(row, line.len(), &cell, options)?);
             }
-            line.add_cell(&cell, columns, screen)?;
+            line.add_cell(&cell, &mut runs.1, columns, screen)?;
         }
         line.fill(columns);
         Ok(line)
     }
 
-    /// Adds the pen of a run of cells, and the one of its blanks.
-    fn add_pens(&mut self, row: Row, cell: &RowCell, options: &Options) -> Result<(), Error> {
-        let mut link = None;
-        if cell.has_link() {
-            link = read_link(row, self.len())?.map(Rc::new);
-        }
-        let pen = Pen::new(cell.attrs(), link, options);
-        self.pens.push(pen.of_blank());
-        self.pens.push(pen);
-        Ok(())
-    }
-
-    /// Adds a cell with the last pen. Of a wide one that crosses the edge a blank is shown.
-    fn add_cell(&mut self, cell: &RowCell, limit: usize, screen: &Screen) -> Result<(), Error> {
+    /// Adds a cell of a run. Of a wide one that crosses the edge a blank is shown.
+    fn add_cell(
+        &mut self,
+        cell: &RowCell,
+        run: &mut Run,
+        limit: usize,
+        screen: &Screen,
+    ) -> Result<(), Error> {
         let room = limit - self.len();
         let columns = cell.width().clamp(1, room);
         let text = if cell.width() > room { " " } else { cell.str() };
-        let pen = self.pens.len() - 1;
-        if columns == 1 && is_printable(text) && self.ends_in_ascii() {
-            self.push_printable(text, pen);
+        if let ([character @ b' '..=b'~'], 1, true) =
+            (text.as_bytes(), columns, self.ends_in_ascii())
+        {
+            let pen = run.pen(self, text == " ");
+            self.push_one(*character, pen);
             return Ok(());
         }
         let shown = shown(text, columns, screen.widths())?;
-        if shown.text.bytes().all(|byte| byte == b' ') {
-            (0..columns).for_each(|_| self.push_blank(pen - 1));
+        let is_blank = shown.text.bytes().all(|byte| byte == b' ');
+        let pen = run.pen(self, is_blank);
+        if is_blank {
+            (0..columns).for_each(|_| self.push_blank(pen));
             return Ok(());
         }
         let before = self.cells.last();
@@ -148,24 +147,32 @@ impl Line {
         Ok(())
     }
 
+    /// Adds a pen, unless one of the last ones is the same, and returns which one it is.
+    fn add_pen(&mut self, pen: Pen) -> usize {
+        let first = self.pens.len().saturating_sub(RECENT);
+        let same = self.pens[first..].iter().rposition(|it| *it == pen);
+        same.map_or_else(
+            || {
+                self.pens.push(pen);
+                self.pens.len() - 1
+            },
+            |place| first + place,
+        )
+    }
+
     /// Whether what is printable in ASCII is no part of a grapheme with the text before it.
     fn ends_in_ascii(&self) -> bool {
         self.text.as_bytes().last().map_or(true, u8::is_ascii)
     }
 
-    /// Adds a printable character of ASCII, with this pen or the one of its blanks.
-    fn push_printable(&mut self, text: &str, pen: usize) {
-        self.push_one(text, if text == " " { pen - 1 } else { pen });
-    }
-
     fn push_blank(&mut self, pen: usize) {
-        self.push_one(" ", pen);
+        self.push_one(b' ', pen);
     }
 
-    /// Adds a text of one column, behind one that it can't join.
-    fn push_one(&mut self, text: &str, pen: usize) {
+    /// Adds a printable character of ASCII, behind a text that it can't join.
+    fn push_one(&mut self, character: u8, pen: usize) {
         let begin = self.text.len();
-        self.text.push_str(text);
+        self.text.push(character.into());
         self.cells.push(Cell {
             begin,
             end: begin + 1,
@@ -272,16 +279,69 @@ impl Line {
     fn unequal(&self, other: &Line) -> Vec<bool> {
         let mut pens = Compared::new(self, other);
         let pairs = self.cells.iter().zip(&other.cells);
+        if self.has_bytes_alone() && other.has_bytes_alone() {
+            let texts = self.text.bytes().zip(other.text.bytes());
+            let unequal = pairs.zip(texts).map(|((cell, another), (byte, other))| {
+                byte != other || !pens.are_same(cell.pen, another.pen)
+            });
+            return unequal.collect();
+        }
         let unequal = pairs.map(|(cell, another)| {
             cell.columns != another.columns
-                || self.bytes(cell) != other.bytes(another)
+                || !self.have_same_text(cell, other, another)
                 || !pens.are_same(cell.pen, another.pen)
         });
         unequal.collect()
     }
 
-    fn bytes(&self, cell: &Cell) -> &[u8] {
-        &self.text.as_bytes()[cell.begin..cell.end]
+    /// Whether each column has a text of one byte.
+    fn has_bytes_alone(&self) -> bool {
+        self.is_plain && self.text.len() == self.len()
+    }
+
+    fn have_same_text(&self, cell: &Cell, other: &Line, another: &Cell) -> bool {
+        let (text, other) = (self.text.as_bytes(), other.text.as_bytes());
+        text[cell.begin..cell.end] == other[another.begin..another.end]
+    }
+}
+
+/// The pen of cells beside one another, and which one of the row's it is and that of its blanks is,
+/// once the row has them.
+#[derive(Default)]
+struct Run {
+    pen: Pen,
+    of_texts: Option<usize>,
+    of_blanks: Option<usize>,
+}
+
+impl Run {
+    /// The run that begins with this cell, at this column of a row.
+    fn read(row: Row, column: usize, cell: &RowCell, options: &Options) -> Result<Run, Error> {
+        let mut link = None;
+        if cell.has_link() {
+            link = read_link(row, column)?.map(Rc::new);
+        }
+        let pen = Pen::new(cell.attrs(), link, options);
+        Ok(Run {
+            pen,
+            of_texts: None,
+            of_blanks: None,
+        })
+    }
+
+    /// Which of the row's pens a text has, or a blank.
+    fn pen(&mut self, line: &mut Line, is_blank: bool) -> usize {
+        if is_blank {
+            let pen = &self.pen;
+            *self
+                .of_blanks
+                .get_or_insert_with(|| line.add_pen(pen.of_blank()))
+        } else {
+            let pen = &self.pen;
+            *self
+                .of_texts
+                .get_or_insert_with(|| line.add_pen(pen.clone()))
+        }
     }
 }
 
@@ -309,13 +369,6 @@ impl<'a> Compared<'a> {
             self.last = (pen, other, self.pens[pen] == self.others[other]);
         }
         self.last.2
-    }
-}
-
-/// By its texts alone, which tell most rows apart.
-impl Hash for Line {
-    fn hash<H: Hasher>(&self, state: &mut H) {
-        self.text.hash(state);
     }
 }
 

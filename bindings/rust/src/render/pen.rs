@@ -4,6 +4,7 @@ use super::options::Options;
 use crate::attributes::{Attributes, Blink, SemanticType, Underline, VerticalAlign};
 use crate::color::ColorAttribute;
 use std::fmt::Write;
+use std::ops::Deref;
 use std::rc::Rc;
 
 /// The longest uri, in bytes, that terminals take.
@@ -15,9 +16,76 @@ const LONGEST_ID: usize = 250;
 /// How a cell is shown: attributes that the terminal knows, and a link.
 #[derive(Clone, PartialEq, Eq, Debug, Default)]
 pub(super) struct Pen {
-    /// These have no link.
-    pub attributes: Attributes,
+    pub style: Style,
     pub link: Option<Rc<Link>>,
+}
+
+/// Attributes that the terminal knows, without a link, and a number by which they are compared.
+#[derive(Clone, Debug, Default)]
+pub(super) struct Style {
+    number: u128,
+    attributes: Attributes,
+}
+
+impl Style {
+    fn new(attributes: Attributes) -> Style {
+        let flags = [
+            attributes.italic,
+            attributes.reverse,
+            attributes.strikethrough,
+            attributes.invisible,
+            attributes.overline,
+        ];
+        let kinds = [
+            attributes.intensity as u8,
+            attributes.underline as u8,
+            attributes.blink as u8,
+        ];
+        let colors = [
+            attributes.foreground,
+            attributes.background,
+            attributes.underline_color,
+        ];
+        let number = flags
+            .iter()
+            .fold(0, |all, flag| all << 1 | u128::from(*flag));
+        let number = kinds
+            .iter()
+            .fold(number, |all, kind| all << 3 | u128::from(*kind));
+        let number = colors
+            .iter()
+            .fold(number, |all, color| all << 26 | u128::from(packed(*color)));
+        Style { number, attributes }
+    }
+}
+
+/// A number of 26 bits for each colour that a terminal is sent, 0 for the default one.
+fn packed(color: ColorAttribute) -> u32 {
+    match color {
+        ColorAttribute::Default => 0,
+        ColorAttribute::PaletteIndex(index) => 1 << 24 | u32::from(index),
+        ColorAttribute::TrueColorWithDefaultFallback(rgb)
+        | ColorAttribute::TrueColorWithPaletteFallback(rgb, _) => {
+            let (red, green, blue) = rgb.to_tuple_rgb8();
+            2 << 24 | u32::from_be_bytes([0, red, green, blue])
+        }
+    }
+}
+
+impl PartialEq for Style {
+    fn eq(&self, other: &Style) -> bool {
+        self.number == other.number
+    }
+}
+
+impl Eq for Style {}
+
+impl Deref for Style {
+    type Target = Attributes;
+
+    fn deref(&self) -> &Attributes {
+        &self.attributes
+    }
 }
 
 impl Pen {
@@ -41,35 +109,37 @@ impl Pen {
                 attributes.underline = Underline::Single;
             }
         }
-        Pen { attributes, link }
+        let style = Style::new(attributes);
+        Pen { style, link }
     }
 
     /// The pen of a blank that looks as one with this pen does. Without lines and swapped colours
     /// a blank has its background alone.
     pub fn of_blank(&self) -> Pen {
-        let attributes = if has_marks(&self.attributes) {
-            self.attributes.clone()
+        let style = if has_marks(&self.style) {
+            self.style.clone()
         } else {
-            Attributes {
-                background: self.attributes.background,
-                ..Attributes::default()
-            }
+            erased(self.style.background)
         };
         let link = self.link.clone();
-        Pen { attributes, link }
+        Pen { style, link }
     }
 
     /// Whether a blank with this pen is what the terminal leaves where it erases.
     pub fn is_erased(&self, options: &Options) -> bool {
-        let background = self.attributes.background;
-        let erased = Attributes {
-            background,
-            ..Attributes::default()
-        };
+        let background = self.style.background;
         self.link.is_none()
-            && self.attributes == erased
+            && self.style == erased(background)
             && (options.erases_with_background || background == ColorAttribute::Default)
     }
+}
+
+/// The attributes of what is erased with this background.
+fn erased(background: ColorAttribute) -> Style {
+    Style::new(Attributes {
+        background,
+        ..Attributes::default()
+    })
 }
 
 /// Whether blanks show more of a pen than its background.
@@ -161,7 +231,7 @@ mod tests {
             background: red,
             ..Attributes::default()
         };
-        assert_eq!(blank.attributes, wanted);
+        assert_eq!(*blank.style, wanted);
         assert!(blank.is_erased(&options));
         assert!(!blank.is_erased(&options.erases_with_background(false)));
         let marked = Attributes {
@@ -169,7 +239,7 @@ mod tests {
             ..plain
         };
         let blank = Pen::new(&marked, None, &options).of_blank();
-        assert_eq!(blank.attributes, marked);
+        assert_eq!(*blank.style, marked);
         assert!(!blank.is_erased(&options));
     }
 }

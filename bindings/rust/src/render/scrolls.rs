@@ -1,8 +1,7 @@
 //! Scrolls that bring rows to where they are to be shown.
 
 use super::line::Line;
-use std::collections::HashMap;
-use std::rc::Rc;
+use std::{iter, rc::Rc};
 
 /// How many scrolls are looked for at most.
 pub(super) const MOST: usize = 4;
@@ -50,15 +49,10 @@ pub(super) fn find(shown: &[Rc<Line>], wanted: &[Rc<Line>]) -> Option<Scroll> {
     if !are_any_moved(shown, wanted, &costs) {
         return None;
     }
-    let blank = Line::blank(wanted[0].len(), wanted[0].attribute);
-    let blank_costs: Vec<_> = wanted.iter().map(|line| cost(line, &blank)).collect();
-    let numbers = numbers(shown, wanted);
     let search = Search {
         shown,
         wanted,
-        numbers,
         costs,
-        blank_costs,
     };
     search.best()
 }
@@ -82,63 +76,55 @@ fn cost(wanted: &Line, shown: &Line) -> isize {
     texts + ERASE.min(blanks)
 }
 
-/// A number for each row: equal rows have equal ones.
-fn numbers(shown: &[Rc<Line>], wanted: &[Rc<Line>]) -> (Vec<usize>, Vec<usize>) {
-    let mut numbers = HashMap::new();
-    let mut number = |line| {
-        let next = numbers.len();
-        *numbers.entry(line).or_insert(next)
-    };
-    let shown = shown.iter().map(&mut number).collect();
-    (shown, wanted.iter().map(&mut number).collect())
-}
-
-/// The rows, the numbers of those that are shown and of those that are wanted, and what each of the
-/// wanted ones takes: as all is, and on blanks.
+/// The rows that are shown and those that are wanted, and what each of the wanted ones takes.
 struct Search<'a> {
     shown: &'a [Rc<Line>],
     wanted: &'a [Rc<Line>],
-    numbers: (Vec<usize>, Vec<usize>),
     costs: Vec<isize>,
-    blank_costs: Vec<isize>,
 }
 
 impl Search<'_> {
     /// The scroll that saves the most, if one saves anything. Only those are looked at that bring
     /// rows which take more than a scroll does.
     fn best(&self) -> Option<Scroll> {
-        let mut best = (0, None);
-        for count in 1..self.shown.len() {
-            for up in [true, false] {
-                if self.brought(count, up) <= LINES {
-                    continue;
-                }
-                let (saved, scroll) = self.best_by(count, up);
-                if saved > best.0 {
-                    best = (saved, Some(scroll));
-                }
+        let counts = (1..self.shown.len()).flat_map(|count| [(count, true), (count, false)]);
+        let mut counts = counts.filter(|(count, up)| self.brought(*count, *up) > LINES);
+        let first = counts.next()?;
+        let (blank_costs, mut best) = (self.blank_costs(), (0, None));
+        for (count, up) in iter::once(first).chain(counts) {
+            let (saved, scroll) = self.best_by(count, up, &blank_costs);
+            if saved > best.0 {
+                best = (saved, Some(scroll));
             }
         }
         best.1
+    }
+
+    /// What each of the wanted rows takes on blanks.
+    fn blank_costs(&self) -> Vec<isize> {
+        let blank = Line::blank(self.wanted[0].len(), self.wanted[0].attribute);
+        let rows = self.wanted.iter();
+        rows.map(|line| cost(line, &blank)).collect()
     }
 
     /// What the rows take that a scroll of all by so many would bring.
     fn brought(&self, count: usize, up: bool) -> isize {
         let (to, from) = places(count, up);
         let rows = 0..self.shown.len() - count;
-        let brought = rows.filter(|row| self.is_brought(row + to, row + from));
+        let costly = rows.filter(|row| self.costs[row + to] > 0);
+        let brought = costly.filter(|row| self.is_brought(row + to, row + from));
         brought.map(|row| self.costs[row + to]).sum()
     }
 
     fn is_brought(&self, row: usize, from: usize) -> bool {
-        self.numbers.1[row] == self.numbers.0[from]
+        self.wanted[row] == self.shown[from]
     }
 
     /// The scroll by so many rows that saves the most, and what it saves.
-    fn best_by(&self, count: usize, up: bool) -> (isize, Scroll) {
+    fn best_by(&self, count: usize, up: bool, blank_costs: &[isize]) -> (isize, Scroll) {
         let height = self.shown.len();
         let (to, from) = places(count, up);
-        let blanks = self.blanks_saved(count);
+        let blanks = self.blanks_saved(count, blank_costs);
         // The rows that are moved are those from `begin` to `end`, and `sum` is what all before
         // `end` save. Blanks come in behind them, or before them.
         let (mut begin, mut most_before, mut sum) = (0, isize::MIN, 0);
@@ -177,8 +163,8 @@ impl Search<'_> {
     }
 
     /// For each row what is saved where so many from there on are blank: nothing, or less.
-    fn blanks_saved(&self, count: usize) -> Vec<isize> {
-        let pairs = self.costs.iter().zip(&self.blank_costs);
+    fn blanks_saved(&self, count: usize, blank_costs: &[isize]) -> Vec<isize> {
+        let pairs = self.costs.iter().zip(blank_costs);
         let saved: Vec<_> = pairs.map(|(cost, blank)| (cost - blank).min(0)).collect();
         let sums = saved.windows(count).map(|rows| rows.iter().sum());
         sums.collect()

@@ -2,11 +2,10 @@
 
 use super::moves::{by, shortest, Place};
 use super::options::Options;
-use super::pen::{has_marks, Link, Pen};
+use super::pen::{has_marks, Link, Pen, Style};
 use super::scrolls::Scroll;
 use super::settings::Settings;
 use super::sgr;
-use crate::attributes::Attributes;
 use crate::change::LineAttribute;
 use std::fmt;
 use std::io::Write;
@@ -17,7 +16,7 @@ pub(super) struct Terminal {
     /// What is still to be written.
     pub bytes: Vec<u8>,
     place: Place,
-    attributes: Option<Attributes>,
+    style: Option<Style>,
     link: Option<Option<Rc<Link>>>,
     pub settings: Settings,
     /// Whether rows may have different widths, so that the cursor can't go along one for another.
@@ -31,7 +30,7 @@ impl Terminal {
             has_large_lines: options.line_attributes,
             bytes: Vec::new(),
             place: Place::Unknown,
-            attributes: None,
+            style: None,
             link: None,
             settings: Settings::new(),
         }
@@ -41,7 +40,7 @@ impl Terminal {
     pub fn forget(&mut self) {
         self.bytes.clear();
         self.place = Place::Unknown;
-        self.attributes = None;
+        self.style = None;
         self.link = None;
         self.settings = self.settings.forgotten();
     }
@@ -139,19 +138,19 @@ impl Terminal {
 
     pub fn set_pen(&mut self, pen: &Pen) {
         self.set_link(&pen.link);
-        if self.attributes.as_ref() != Some(&pen.attributes) {
-            self.push(&sgr::sequence(self.attributes.as_ref(), &pen.attributes));
-            self.attributes = Some(pen.attributes.clone());
+        if self.style.as_ref() != Some(&pen.style) {
+            self.push(&sgr::sequence(self.style.as_deref(), &pen.style));
+            self.style = Some(pen.style.clone());
         }
     }
 
     /// Whether a text with this pen may be printed now, or a blank that looks as with it.
     pub fn has_pen(&self, pen: &Pen, is_blank: bool) -> bool {
-        let Some(attributes) = &self.attributes else {
+        let Some(style) = &self.style else {
             return false;
         };
         self.link.as_ref() == Some(&pen.link)
-            && (*attributes == pen.attributes || is_blank && blanks_alike(attributes, pen))
+            && (*style == pen.style || is_blank && blanks_alike(style, &pen.style))
     }
 
     /// Sets a pen by which erased cells are as blanks with this one.
@@ -237,9 +236,7 @@ impl Terminal {
     }
 }
 
-/// Whether a blank with these attributes looks as one with this pen.
-fn blanks_alike(attributes: &Attributes, pen: &Pen) -> bool {
-    attributes.background == pen.attributes.background
-        && !has_marks(attributes)
-        && !has_marks(&pen.attributes)
+/// Whether a blank with these attributes looks as one with others.
+fn blanks_alike(one: &Style, other: &Style) -> bool {
+    one.background == other.background && !has_marks(one) && !has_marks(other)
 }

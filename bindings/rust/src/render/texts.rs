@@ -48,7 +48,7 @@ pub(super) fn shown(text: &str, columns: usize, widths: Widths) -> Result<Shown<
 }
 
 /// Whether a text is one printable character of ASCII.
-pub(super) fn is_printable(text: &str) -> bool {
+fn is_printable(text: &str) -> bool {
     matches!(text.as_bytes(), [b' '..=b'~'])
 }
 

@@ -1,15 +1,17 @@
 //! What a renderer writes is, to a strict model of a terminal, what the screen shows: for random
-//! screens of many sizes, with wide texts, marks, emoji, pens and links.
+//! screens of many sizes, with wide texts, marks, emoji, pens and links. `TIKEBURO_SCREENS` is how
+//! many times as many screens as usual are shown: by 4 they are some ten thousand.
 
 mod render_model;
 
 use render_model::{Glyph, Measure, Model};
+use std::env;
 use std::io::{self, Write};
 use tikeburo::render::{Error, Options, Renderer};
 use tikeburo::{
     graphemes, text_width, AttributeChange, Attributes, Blink, Changes, ColorAttribute,
     CursorShape, CursorVisibility, Hyperlink, Intensity, LineAttribute, Position, RgbColor, Screen,
-    Surface, Underline, Widths,
+    Surface, Underline, Viewer, Widths,
 };
 
 const TEXTS: [&str; 32] = [
@@ -358,6 +360,15 @@ fn check_settings(model: &Model, screen: &Screen, what: &str) {
     assert_eq!(model.title, title, "{what}");
 }
 
+/// How many seeds are played, where these are the usual ones.
+fn seeds(usual: u64) -> u64 {
+    let times = env::var("TIKEBURO_SCREENS").map(|times| times.parse());
+    usual
+        * times
+            .unwrap_or(Ok(1))
+            .expect("a number in TIKEBURO_SCREENS")
+}
+
 /// Plays random changes on surfaces of many sizes, and shows each on a model that `prepare` made.
 fn play(seeds: u64, options: fn(Options) -> Options, prepare: fn(&mut Model)) -> (usize, usize) {
     let (mut screens, mut scrolls) = (0, 0);
@@ -399,20 +410,21 @@ fn check_end(model: &Model) {
 
 #[test]
 fn screens_are_shown() {
-    let (screens, scrolls) = play(300, |options| options, |_| {});
-    assert_eq!(screens, 3600);
-    assert!(scrolls > 100, "{scrolls} scrolls");
+    let seeds = seeds(75);
+    let (screens, scrolls) = play(seeds, |options| options, |_| {});
+    assert_eq!(screens, 12 * seeds as usize);
+    assert!(scrolls > screens / 36, "{scrolls} scrolls");
 }
 
 #[test]
 fn screens_are_shown_by_updates_that_are_synchronized() {
-    play(60, |options| options.synchronized(true), |_| {});
+    play(seeds(20), |options| options.synchronized(true), |_| {});
 }
 
 #[test]
 fn screens_are_shown_where_erased_cells_have_no_background() {
     play(
-        100,
+        seeds(25),
         |options| options.erases_with_background(false),
         |model| model.erases_with_background = false,
     );
@@ -421,7 +433,7 @@ fn screens_are_shown_where_erased_cells_have_no_background() {
 #[test]
 fn screens_are_shown_where_characters_are_measured_one_by_one() {
     play(
-        200,
+        seeds(50),
         |options| options,
         |model| model.measure = Measure::Characters,
     );
@@ -429,7 +441,7 @@ fn screens_are_shown_where_characters_are_measured_one_by_one() {
 
 #[test]
 fn changes_are_shown() {
-    for seed in 0..120 {
+    for seed in 0..seeds(30) {
         let mut random = Random::new(seed + 1000);
         let (width, height) = random.one_of(&SIZES);
         let mut surface = Surface::new(width, height).unwrap();
@@ -455,7 +467,7 @@ fn changes_are_shown() {
 
 #[test]
 fn a_terminal_may_have_another_size() {
-    for seed in 0..150 {
+    for seed in 0..seeds(40) {
         let mut random = Random::new(seed + 2000);
         let (width, height) = random.one_of(&SIZES);
         let mut surface = Surface::new(width, height).unwrap();
@@ -485,8 +497,54 @@ fn a_terminal_may_have_another_size() {
 }
 
 #[test]
+fn screens_are_shown_in_turn() {
+    for seed in 0..seeds(40) {
+        let mut random = Random::new(seed + 6000);
+        let (width, height) = random.one_of(&SIZES);
+        let mut surfaces = [0; 2].map(|_| Surface::new(width, height).unwrap());
+        let mut viewer = Viewer::new(&surfaces[0]).unwrap();
+        let mut renderer = Renderer::new(Options::new(width, height));
+        let mut model = Model::new(width, height);
+        for step in 0..12 {
+            let surface = &mut surfaces[random.below(2)];
+            let (width, height) = surface.dimensions();
+            surface.add(&random.changes(width, height)).unwrap();
+            match random.below(9) {
+                0 => surface.resize(width, random.below(height) + 1).unwrap(),
+                1 => surface.resize(random.below(width) + 1, height).unwrap(),
+                // Another one, where this one was.
+                2 => *surface = Surface::copy_of(surface).unwrap(),
+                3 => *surface = Surface::new(width, height).unwrap(),
+                _ => {}
+            }
+            viewer.follow(surface).unwrap();
+            let is_viewed = random.below(3) == 0;
+            let screen = if is_viewed { viewer.screen() } else { surface };
+            if random.below(9) == 0 {
+                show_and_assume(&mut renderer, &mut model, screen);
+            }
+            let mut out = Vec::new();
+            renderer.show(&mut out, screen).unwrap();
+            model.feed(&out);
+            check(&model, screen, &format!("seed {seed}, step {step}"));
+        }
+    }
+}
+
+/// Another renderer shows a screen, which then is assumed.
+fn show_and_assume(renderer: &mut Renderer, model: &mut Model, screen: &Screen) {
+    let mut out = Vec::new();
+    renderer.end(&mut out).unwrap();
+    let mut other = Renderer::new(*renderer.options());
+    other.show(&mut out, screen).unwrap();
+    other.end(&mut out).unwrap();
+    model.feed(&out);
+    renderer.assume(screen).unwrap();
+}
+
+#[test]
 fn one_screen_becomes_another() {
-    for seed in 0..200 {
+    for seed in 0..seeds(50) {
         let mut random = Random::new(seed + 3000);
         let (width, height) = random.one_of(&SIZES);
         let [mut old, mut new] = [0; 2].map(|_| Surface::new(width, height).unwrap());
@@ -518,7 +576,7 @@ fn one_screen_becomes_another() {
 #[test]
 fn lines_may_be_large() {
     use LineAttribute::{DoubleHeightTopHalfLine, DoubleWidthLine, SingleWidthLine};
-    for seed in 0..200 {
+    for seed in 0..seeds(50) {
         let mut random = Random::new(seed + 4000);
         let (width, height) = random.one_of(&SIZES);
         let mut surface = Surface::new(width, height).unwrap();

@@ -15,7 +15,6 @@ use std::error::Error;
 use std::io::{self, Read};
 use terminal::Terminal;
 use tikeburo::render::{Options, Renderer};
-use tikeburo::Changes;
 
 fn main() -> Result<(), Box<dyn Error>> {
     let mut size = env::args().skip(1).map(|word| word.parse());
@@ -24,14 +23,11 @@ fn main() -> Result<(), Box<dyn Error>> {
     let mut bytes = Vec::new();
     io::stdin().read_to_end(&mut bytes)?;
     let mut terminal = Terminal::new(width, height)?;
-    terminal.surface.keep_changes(true);
     let mut renderer = Renderer::new(Options::new(width, height));
     let mut out = io::stdout().lock();
-    let (mut since, mut changes) = (0, Changes::new());
     for part in bytes.chunks(512) {
         terminal.feed(part)?;
-        since = terminal.surface.read_changes(since, &mut changes)?;
-        renderer.changes(&mut out, &changes)?;
+        renderer.show(&mut out, &terminal.surface)?;
     }
     Ok(renderer.end(&mut out)?)
 }

@@ -42,6 +42,12 @@
 //! - What a text is to a shell, and whether it is raised or lowered, isn't shown.
 //!
 //! Blanks have their background, and of their other attributes only what is seen.
+//!
+//! # What a write costs
+//!
+//! Of the [`Surface`] that was shown last, only the rows are read that may have changed since then.
+//! Of another one, and of what a viewer or a client shows, all rows are read. Cells are compared
+//! only in rows that differ from what the terminal shows.
 
 mod colors;
 mod compose;
@@ -51,6 +57,7 @@ mod moves;
 mod options;
 mod pen;
 mod rows;
+mod runs;
 mod scrolls;
 mod settings;
 mod sgr;

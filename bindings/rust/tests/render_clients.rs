@@ -42,6 +42,24 @@ fn a_client_is_shown_as_its_surface() {
 }
 
 #[test]
+fn a_client_that_is_behind_its_surface_is_shown() {
+    let mut surface = Surface::new(9, 3).unwrap();
+    let mut client = Client::new().unwrap();
+    surface.add_change("old").unwrap();
+    let answer = surface.respond(&client.ask().unwrap()).unwrap();
+    client.feed(&answer).unwrap();
+    for text in ["\r1", "\r2", "\r3"].repeat(9) {
+        surface.add_change(text).unwrap();
+    }
+    let mut out = Vec::new();
+    let mut renderer = Renderer::new(Options::new(9, 3));
+    renderer.show(&mut out, &surface).unwrap();
+    out.clear();
+    renderer.show(&mut out, client.screen()).unwrap();
+    assert_eq!(out, b"\ro\x1b[2C");
+}
+
+#[test]
 fn a_client_that_shows_nothing_is_blank() {
     let client = Client::new().unwrap();
     let mut out = Vec::new();

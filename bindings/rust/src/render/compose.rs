@@ -61,28 +61,27 @@ impl Renderer {
         self.terminal.clear();
         let usual = (!self.options.line_attributes).then_some(LineAttribute::SingleWidthLine);
         let (width, height) = self.options.size();
-        vec![Rc::new(Line::blank(width, usual)); height]
+        let blank = Rc::new(Line::blank(width, usual));
+        vec![blank; height]
     }
 
-    /// What the terminal shows of a screen. Rows that are as they were shown are those same ones.
+    /// What the terminal shows of a screen. Of the surface that was shown last only those rows are
+    /// read that may have changed.
     pub(super) fn read(&mut self, screen: &Screen) -> Result<Shown, crate::Error> {
         let version = Version::of(screen);
         let shown = self.shown.as_ref();
+        let old = shown.map_or(&[][..], |shown| &shown.lines);
         let changed = match (version, shown.and_then(|shown| shown.version)) {
             (Some(version), Some(old)) => version.changed_rows(old, screen)?,
             _ => None,
         };
-        let old = shown.map_or(&[][..], |shown| &shown.lines);
-        let is_same = |row| {
-            changed
-                .as_ref()
-                .map_or(false, |rows| rows.get(row) == Some(&0))
-        };
-        let mut lines: Vec<Rc<Line>> = Vec::with_capacity(self.options.height);
+        let changed = changed.unwrap_or_default();
+        let mut lines = Vec::with_capacity(self.options.height);
         for row in 0..self.options.height {
-            let line = match old.get(row).filter(|_| is_same(row)) {
-                Some(old) => Rc::clone(old),
-                None => {
+            let is_same = changed.get(row) == Some(&0);
+            let line = match old.get(row) {
+                Some(line) if is_same => Rc::clone(line),
+                _ => {
                     let line = Line::read(screen, row, &mut self.buffer, &self.options)?;
                     shared(line, old, &lines)
                 }

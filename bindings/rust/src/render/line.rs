@@ -1,16 +1,17 @@
 //! A row of a terminal, as it is sent.
 
 use super::options::Options;
-use super::pen::{Link, Pen};
+use super::pen::Pen;
+use super::runs::{Pens, Run};
 use super::texts::{joins, shown};
 use crate::change::LineAttribute;
 use crate::error::Error;
-use crate::rows::{Row, RowBuffer, RowCell};
+use crate::rows::{RowBuffer, RowCell};
 use crate::screen::Screen;
 use std::ptr;
-use std::rc::Rc;
 
-/// What a row of the terminal shows: a cell for each column. Rows that show the same are equal.
+/// What a row of the terminal shows: a cell for each column. Rows that show the same are equal,
+/// unless they have many pens.
 #[derive(Clone, PartialEq, Eq)]
 pub(super) struct Line {
     text: String,
@@ -88,15 +89,16 @@ impl Line {
         };
         row.read(buffer)?;
         let mut line = Line::empty(columns, Some(attribute));
-        let mut runs = (usize::MAX, Run::default());
+        let (mut number, mut run) = (None, Run::default());
         for cell in buffer.cells() {
             if line.len() >= columns {
                 break;
             }
-            if runs.0 != cell.run() {
-                runs = (cell.run(), Run::read(row, line.len(), &cell, options)?);
+            if number != Some(cell.run()) {
+                number = Some(cell.run());
+                run = Run::read(row, line.len(), &cell, options)?;
             }
-            line.add_cell(&cell, &mut runs.1, columns, screen)?;
+            line.add_cell(&cell, &mut run, columns, screen)?;
         }
         line.fill(columns);
         Ok(line)
@@ -147,8 +149,11 @@ impl Line {
         Ok(())
     }
 
-    /// Adds a pen, unless one of the last ones is the same, and returns which one it is.
-    fn add_pen(&mut self, pen: Pen) -> usize {
+    /// Adds a pen, unless it is the default one or one of the last, and returns which one it is.
+    pub fn add_pen(&mut self, pen: Pen) -> usize {
+        if pen == self.pens[0] {
+            return 0;
+        }
         let first = self.pens.len().saturating_sub(RECENT);
         let same = self.pens[first..].iter().rposition(|it| *it == pen);
         same.map_or_else(
@@ -244,7 +249,7 @@ impl Line {
 
     /// How many blanks of one pen there are from this column on.
     pub fn blanks(&self, column: usize) -> usize {
-        let mut pens = Compared::new(self, self);
+        let mut pens = Pens::new(&self.pens, &self.pens);
         let first = self.cells[column].pen;
         let mut columns = column..self.len();
         let end =
@@ -277,7 +282,7 @@ impl Line {
 
     /// For each column whether the texts that take it differ.
     fn unequal(&self, other: &Line) -> Vec<bool> {
-        let mut pens = Compared::new(self, other);
+        let mut pens = Pens::new(&self.pens, &other.pens);
         let pairs = self.cells.iter().zip(&other.cells);
         if self.has_bytes_alone() && other.has_bytes_alone() {
             let texts = self.text.bytes().zip(other.text.bytes());
@@ -305,73 +310,6 @@ impl Line {
     }
 }
 
-/// The pen of cells beside one another, and which one of the row's it is and that of its blanks is,
-/// once the row has them.
-#[derive(Default)]
-struct Run {
-    pen: Pen,
-    of_texts: Option<usize>,
-    of_blanks: Option<usize>,
-}
-
-impl Run {
-    /// The run that begins with this cell, at this column of a row.
-    fn read(row: Row, column: usize, cell: &RowCell, options: &Options) -> Result<Run, Error> {
-        let mut link = None;
-        if cell.has_link() {
-            link = read_link(row, column)?.map(Rc::new);
-        }
-        let pen = Pen::new(cell.attrs(), link, options);
-        Ok(Run {
-            pen,
-            of_texts: None,
-            of_blanks: None,
-        })
-    }
-
-    /// Which of the row's pens a text has, or a blank.
-    fn pen(&mut self, line: &mut Line, is_blank: bool) -> usize {
-        if is_blank {
-            let pen = &self.pen;
-            *self
-                .of_blanks
-                .get_or_insert_with(|| line.add_pen(pen.of_blank()))
-        } else {
-            let pen = &self.pen;
-            *self
-                .of_texts
-                .get_or_insert_with(|| line.add_pen(pen.clone()))
-        }
-    }
-}
-
-/// Compares pens of two rows. Cells beside one another have the same ones mostly, which are compared
-/// once.
-struct Compared<'a> {
-    pens: &'a [Pen],
-    others: &'a [Pen],
-    /// Which ones were compared last, and whether they are the same.
-    last: (usize, usize, bool),
-}
-
-impl<'a> Compared<'a> {
-    fn new(line: &'a Line, other: &'a Line) -> Compared<'a> {
-        let last = (0, 0, true); // each row's first one is the default pen
-        Compared {
-            pens: &line.pens,
-            others: &other.pens,
-            last,
-        }
-    }
-
-    fn are_same(&mut self, pen: usize, other: usize) -> bool {
-        if (self.last.0, self.last.1) != (pen, other) {
-            self.last = (pen, other, self.pens[pen] == self.others[other]);
-        }
-        self.last.2
-    }
-}
-
 #[cfg(test)]
 impl Line {
     /// A row of these characters, of one column each, with the default pen.
@@ -380,14 +318,4 @@ impl Line {
         line.text = text.into();
         line
     }
-}
-
-/// The link of the cell at this column, with its id, if it has one.
-fn read_link(row: Row, column: usize) -> Result<Option<Link>, Error> {
-    let cell = row.cell(column)?;
-    let params = row.link_params(column)?;
-    let id = params.iter().find(|(key, _)| key == "id");
-    let id = id.map(|(_, value)| value.as_str());
-    let link = cell.attrs().hyperlink();
-    Ok(link.and_then(|link| Link::new(link.uri(), id)))
 }

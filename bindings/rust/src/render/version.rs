@@ -14,8 +14,8 @@ pub(super) struct Version {
 }
 
 impl Version {
-    /// That of a screen, where it is a surface's. A viewer and a client have the number of the
-    /// surface that they show, which they don't show alone.
+    /// That of a screen, where it is a surface's. A viewer and a client name the surface that they
+    /// show, but number their rows by themselves.
     pub fn of(screen: &Screen) -> Option<Version> {
         if !is_surface(screen) {
             return None;
@@ -46,7 +46,7 @@ impl Version {
     }
 }
 
-/// Whether a screen is a surface's: others don't answer, and it finds that nothing is asked.
+/// Whether a screen is a surface's: it finds that nothing is asked, and others never answer.
 fn is_surface(screen: &Screen) -> bool {
     let (handle, mut len) = (screen.handle.get(), 0);
     // Safety: the handle is live, and two buffers without room are neither read nor written.

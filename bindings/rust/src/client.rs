@@ -179,7 +179,11 @@ impl Client {
                 unsafe { ffi::tk_client_new_by(handle, ranges, count, cells, bytes) }
             }
         })?;
-        let screen = Screen { handle, widths };
+        let screen = Screen {
+            handle,
+            widths,
+            is_of_surface: false,
+        };
         Ok(Client { screen })
     }
 

@@ -29,6 +29,9 @@ use std::fmt;
 pub struct Screen {
     pub(crate) handle: Handle,
     pub(crate) widths: Widths,
+    /// Whether it is that of a surface, and not of a viewer or a client, whose number is that of
+    /// what they show and not of their own rows.
+    pub(crate) is_of_surface: bool,
 }
 
 impl Screen {
@@ -144,6 +147,22 @@ impl Screen {
                 }
             },
         )
+    }
+
+    /// The number of the source that it shows, and that of the coming change there.
+    pub(crate) fn source_and_number(&self) -> (usize, SequenceNo) {
+        let settings = self.settings();
+        (settings.source, settings.number)
+    }
+
+    /// For each row a byte that isn't 0 where it may show something else than when the screen's
+    /// own surface had this number.
+    pub(crate) fn changed_rows(&self, since: SequenceNo) -> Result<Vec<u8>, Error> {
+        let handle = self.handle.get();
+        // Safety: the handle is live, and the buffer has the room that is named.
+        handle::bytes(&mut [0; 64], |rows, room, count| unsafe {
+            ffi::tk_changed_rows(handle, since, rows, room, count)
+        })
     }
 
     fn settings(&self) -> tk_settings {

@@ -111,7 +111,11 @@ impl Surface {
                 unsafe { ffi::tk_surface_new_by(handle, width, height, ranges, count, source) }
             }
         })?;
-        let screen = Screen { handle, widths };
+        let screen = Screen {
+            handle,
+            widths,
+            is_of_surface: true,
+        };
         Ok(Surface {
             screen,
             source,
@@ -453,11 +457,7 @@ impl Surface {
     ///
     /// [`Error::Memory`].
     pub fn changed_rows(&self, since: SequenceNo) -> Result<Vec<bool>, Error> {
-        let handle = self.handle.get();
-        // Safety: the handle is live, and the buffer has the room that is named.
-        let rows = handle::bytes(&mut [0; 64], |rows, room, count| unsafe {
-            ffi::tk_changed_rows(handle, since, rows, room, count)
-        })?;
+        let rows = self.screen.changed_rows(since)?;
         Ok(rows.into_iter().map(|row| row != 0).collect())
     }
 

@@ -35,7 +35,11 @@ impl Viewer {
             ffi::tk_viewer_new_distinct(handle, source.handle.get())
         })?;
         let widths = source.widths();
-        let screen = Screen { handle, widths };
+        let screen = Screen {
+            handle,
+            widths,
+            is_of_surface: false,
+        };
         Ok(Viewer { screen })
     }
 

@@ -1,30 +1,22 @@
 //! Which surface a screen is, and when it was read.
 
+use crate::change::SequenceNo;
 use crate::error::Error;
-use crate::ffi::{self, tk_settings};
-use crate::handle;
 use crate::screen::Screen;
-use std::ptr;
 
 /// A surface, and the number of its coming change when its rows were read.
 #[derive(Clone, Copy, PartialEq, Eq, Debug)]
 pub(super) struct Version {
     source: usize,
-    number: usize,
+    number: SequenceNo,
 }
 
 impl Version {
     /// That of a screen, where it is a surface's. A viewer and a client name the surface that they
     /// show, but number their rows by themselves.
     pub fn of(screen: &Screen) -> Option<Version> {
-        if !is_surface(screen) {
-            return None;
-        }
-        let mut settings = tk_settings::default();
-        // Safety: the handle is live, and the call writes the settings alone.
-        Error::check(unsafe { ffi::tk_state(screen.handle.get(), &mut settings) }).ok()?;
-        let tk_settings { source, number, .. } = settings;
-        Some(Version { source, number })
+        let (source, number) = screen.source_and_number();
+        screen.is_of_surface.then_some(Version { source, number })
     }
 
     /// For each row of the screen of this version whether it may show something else than when an
@@ -37,24 +29,8 @@ impl Version {
         if self.source != old.source {
             return Ok(None);
         }
-        let handle = screen.handle.get();
-        // Safety: the handle is live, and the buffer has the room that is named.
-        let rows = handle::bytes(&mut [0; 64], |rows, room, count| unsafe {
-            ffi::tk_changed_rows(handle, old.number, rows, room, count)
-        })?;
-        Ok(Some(rows))
+        screen.changed_rows(old.number).map(Some)
     }
-}
-
-/// Whether a screen is a surface's: it finds that nothing is asked, and others never answer.
-fn is_surface(screen: &Screen) -> bool {
-    let (handle, mut len) = (screen.handle.get(), 0);
-    // Safety: the handle is live, and two buffers without room are neither read nor written.
-    let status = unsafe {
-        let nothing = ptr::NonNull::dangling().as_ptr();
-        ffi::tk_respond(handle, nothing, 0, nothing, 0, &mut len)
-    };
-    status == ffi::TRUNCATED
 }
 
 #[cfg(test)]

@@ -71,7 +71,7 @@ NOTIONS = {
 THEOREMS = [
     ("viewer", [("Viewer::follow", "caught_up fully_caught_up")]),
     ("goes-on", [("Viewer::new", "follows"), ("Viewer::follow", "follows"),
-                 ("Surface::add_changes", "followed")]),
+                 ("Surface::add_changes", "preserves")]),
     ("repaints", [("Surface::get_changes", "repaint full")]),
     ("diff", [("Surface::diff_screens", "rows prints")]),
     ("accept", [("Surface::answer", "given given_fully carries carries_fully"),
@@ -80,7 +80,7 @@ THEOREMS = [
     ("run", [("view::run", ""), ("view::run_full", ""), ("many::run_many", "")]),
     ("shows", [("Client::feed", "follows")]),
     ("takes", [("Client::feed", "feeds")]),
-    ("served", [("Source::respond", "ok serves"), ("Client::feed", "shows serves"),
+    ("served", [("Source::respond", "ok preserves"), ("Client::feed", "shows serves"),
                 ("Client::reset", "ready serves")]),
     ("more", [("termwiz_wire::answers", ""), ("termwiz_wire::decided", "answer"),
               ("termwiz_wire::stays", "answer")]),

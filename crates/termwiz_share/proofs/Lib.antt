@@ -4,6 +4,5 @@ pub mod Taking
 pub mod Resumed
 pub mod Served
 mod Unlogged
-pub mod Remembered
 pub mod StillServed
 pub mod Answering

@@ -8,11 +8,12 @@ use Rattle.termwiz_screen.specs.FullScreen.{FullScreen}
 use Rattle.termwiz_screen.specs.Log.{next_number}
 use Rattle.termwiz_screen.specs.Picture.{full_screens}
 use Rattle.termwiz_surface.specs.Answer.{AnswerValue, Carries}
-use Rattle.termwiz_surface.specs.Following.{KeepsViewers, ViewerValue}
+use Rattle.termwiz_surface.specs.Following.{KeepsViewers}
 use Rattle.termwiz_surface.specs.History.{KeepsNames, Names}
+use Rattle.termwiz_surface.specs.Preserving.{Preserves}
 use Rattle.termwiz_surface.specs.Surface.{SurfaceValue, full_of}
+use Rattle.termwiz_surface.proofs.Preserving.{same-measure}
 use Rattle.termwiz_surface.proofs.Remembering.{past-first}
-use Rattle.termwiz_surface.specs.Following as following
 use Rattle.termwiz_wire.specs.Answers.{answer_at}
 use Rattle.termwiz_wire.proofs.Bounds.{past_or_fits}
 use Rattle.termwiz_wire.specs.Within.{IsBeyond, IsWithin}
@@ -27,25 +28,11 @@ use Rattle.termwiz_share.specs.declared.taken.Taken.TheVariants as outcomes
 use Rattle.termwiz_share.specs.Client.{ClientValue, IsReady, SameSettings, Shown, ask_of, fits, has_other_size, shown_by, taken}
 use Rattle.termwiz_share.specs.Feeding.{Ends, Feeds, Steps, TakesAll, TakesNext, with_bytes}
 use Rattle.termwiz_share.specs.Histories.{Follows, FollowsNext, FollowsTo, Given, HasFollowed, HasKept, HasMore, HasStopped, IsGenuine, IsNamed, after, after_all, stream}
-use Rattle.termwiz_share.specs.Serving.{KeepsClients, Serves, Shows}
-use Rattle.termwiz_share.specs.Source.{IsResponse, SourceValue, sent_by}
+use Rattle.termwiz_share.specs.Serving.{KeepsClients, PreservesServing, Serves, Shows}
+use Rattle.termwiz_share.specs.Source.{IsResponse, SourceValue, sent_by, source_of}
 use Rattle.termwiz_wire.specs.MoreBytes.{Laws}
 use Rattle.termwiz_share.proofs.Fed.{follows_next, follows_to, taken_as}
 use Rattle.termwiz_share.proofs.Streams.{err_is, ok_or_err}
-
--- whatever it shows, a viewer with no number follows
-unnumbered : {W : Type 0} (f : W → List ℕ → ℕ) (v : ViewerValue W) (s : SurfaceValue W) → f v.surface.widths ≡ f s.widths → v.last ≡ 0 → following.Follows f v s
-unnumbered f v s one none = record {
-  one_measure = one;
-  leads = record { not_ahead = omega (arith, none); leads = λ some le. absurd (some none) };
-  full = λ full. record { not_ahead = omega (arith, none); leads = λ some le. absurd (some none) };
-}
-
--- what keeps viewers keeps how texts are measured
-same_measure : {W : Type 0} (f : W → List ℕ → ℕ) (s t : SurfaceValue W) → KeepsViewers f s t → f s.widths ≡ f t.widths
-same_measure {W = W} f s t keeps =
-    let v : ViewerValue W = record { surface = s; last = 0 } in
-    (keeps v (unnumbered f v s refl refl)).one_measure
 
 module _ {W : Type 0} (f : W → List ℕ → ℕ) where
   -- a surface that never changed has any past
@@ -71,7 +58,7 @@ module _ {W : Type 0} (f : W → List ℕ → ℕ) where
   -- whatever keeps a surface's viewers, and what its numbers name, keeps a source's clients
   pub keeps_clients : (s t : SourceValue W) → t.number ≡ s.number → KeepsViewers f s.surface t.surface → KeepsNames (f s.surface.widths) s.surface t.surface → KeepsClients f s t
   keeps_clients s t number viewers names c serves =
-      let same : f s.surface.widths ≡ f t.surface.widths = same_measure f s.surface t.surface viewers in
+      let same : f s.surface.widths ≡ f t.surface.widths = same-measure f s.surface t.surface viewers in
       let on = names.full serves.past serves.is_past in
       record {
         past = on.later;
@@ -81,11 +68,13 @@ module _ {W : Type 0} (f : W → List ℕ → ℕ) where
         named = λ e. record { named = λ some. on.alike c.number (serves.not_ahead (e ∙ number)) ∙ (serves.named (e ∙ number)).named some };
       }
 
-  -- so do two such steps
-  pub keeps_after : (n : ℕ) (s mid t : SurfaceValue W) → KeepsViewers f s mid → KeepsNames (f s.widths) s mid → KeepsViewers f mid t → KeepsNames (f mid.widths) mid t → KeepsClients f (record { surface = s; number = n }) (record { surface = t; number = n })
-  keeps_after n s mid t viewers names more_viewers more_names c serves =
-      let middle : SourceValue W = record { surface = mid; number = n } in
-      keeps_clients middle (record { surface = t; number = n }) refl more_viewers more_names c (keeps_clients (record { surface = s; number = n }) middle refl viewers names c serves)
+  -- a source whose surface preserves what it has to
+  pub serves_on : (n : ℕ) (s t : SurfaceValue W) → Preserves f s t → PreservesServing f (source_of n s) (source_of n t)
+  serves_on n s t p = record {
+    number = refl;
+    clients = keeps_clients (source_of n s) (source_of n t) refl p.viewers p.names;
+    surface = p;
+  }
 
   module _ (s : SourceValue W) (c new : ClientValue W) (serves : Serves f s c) (widths : new.surface.widths ≡ c.surface.widths) where
     measured : f new.surface.widths ≡ f s.surface.widths

@@ -15,8 +15,6 @@ pub use Rattle.termwiz_surface.specs.Answer.{is_repaint, suits}
 pub use Rattle.termwiz_surface.specs.Copies.{IsCopied, IsRegionDrawn, IsDrawn, copied_region}
 pub use Rattle.termwiz_surface.specs.Unlogged.{AddsUnlogged, lent_value}
 pub use Rattle.termwiz_surface.specs.Diffs.{HasCopied, HasDrawn}
-pub use Rattle.termwiz_surface.specs.Following.{KeepsViewers}
-pub use Rattle.termwiz_surface.specs.History.{KeepsNames}
 pub use Rattle.termwiz_surface.specs.Resizing.{Resizes}
 pub use Rattle.termwiz_surface.specs.RowNumbers.{NumbersRows}
 pub use Rattle.termwiz_surface.specs.ScrolledOff.{AddsScrolledOff, rows_scrolled_off}
@@ -32,4 +30,4 @@ pub use Rattle.termwiz_share.specs.Responses.{HasResponses, chosen, delta_part}
 pub use Rattle.termwiz_share.specs.Client.{ClientValue, DisplayValue, IsReady, ask_of, fits, shown_by, shown_on, size_place, stale_place}
 pub use Rattle.termwiz_share.specs.Feeding.{DecodesNext, EndsHere, Feeds, HasBegunNext, Keeps, Reads, Steps, Takes, TakesNext, nameless, refusal}
 pub use Rattle.termwiz_share.specs.Histories.{Follows, FollowsNext, FollowsTo, Given, HasGiven}
-pub use Rattle.termwiz_share.specs.Serving.{KeepsClients, KeepsSources, Serves, Shows}
+pub use Rattle.termwiz_share.specs.Serving.{PreservesServing, KeepsSources, Serves, Shows}

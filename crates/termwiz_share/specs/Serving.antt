@@ -5,6 +5,7 @@ use Rattle.termwiz_screen.specs.Log.{next_number}
 use Rattle.termwiz_screen.specs.Picture.{full_screens}
 use Rattle.termwiz_surface.specs.Carried.{IsPastOf}
 use Rattle.termwiz_surface.specs.History.{Names}
+use Rattle.termwiz_surface.specs.Preserving.{Preserves}
 use Rattle.termwiz_surface.specs.Surface.{full_of}
 use Rattle.termwiz_share.specs.Client.{ClientValue}
 use Rattle.termwiz_share.specs.Source.{SourceValue}
@@ -32,3 +33,10 @@ module _ {W : Type 0} (measure_of : W → List ℕ → ℕ) where
   -- each source that served the client serves it still
   abbrev pub KeepsSources : ClientValue W → ClientValue W → Type 0
   KeepsSources old new = (s : SourceValue W) → Serves s old → Serves s new
+
+  -- what each call preserves that changes a source, also where it fails: its number, each client
+  -- that it served, and what its surface preserves
+  pub record PreservesServing (old new : SourceValue W) : Type 0 where
+    pub number : new.number ≡ old.number
+    pub clients : KeepsClients old new
+    pub surface : Preserves measure_of old.surface new.surface

@@ -4,8 +4,7 @@ ghost use Rattle.std.specs.Prelude.{List, OnErr, OnOk, ℕ, min, vec_len};
 ghost use Rattle.termwiz_share.specs.{Adds, AddsScrolledOff, AddsUnlogged, ClientValue};
 ghost use Rattle.termwiz_share.specs.{HasCopied, HasDrawn, IsCopied, IsDrawn, IsRegionDrawn};
 ghost use Rattle.termwiz_share.specs.{IsResponse, IsWritten, number_asked};
-ghost use Rattle.termwiz_share.specs.{IsSurfaceSize, KeepsClients, KeepsNames, KeepsViewers};
-ghost use Rattle.termwiz_share.specs.{NumbersRows};
+ghost use Rattle.termwiz_share.specs.{IsSurfaceSize, PreservesServing};
 ghost use Rattle.termwiz_share.specs.{Resizes, Responds, ScrollRegion, Serves, SourceValue};
 ghost use Rattle.termwiz_share.specs.{blank_surface, flushed, lent_value};
 ghost use Rattle.termwiz_share.specs.{change_value, copied_region, length, map, measure};
@@ -98,16 +97,8 @@ impl<W: Widths> Source<W> {
         ensures adds { Adds (measure W.width_of self.old.surface.widths)
             (trimmed self.old.surface) (change_value change ∷ [])
             (next_number (trimmed self.old.surface).log) result self.new.surface }
-        ensures number { self.new.number ≡ self.old.number }
-        // It still serves each client that it serves, even after an error.
-        ensures serves { KeepsClients (measure W.width_of) self.old self.new }
-        // What each number named it names still, even after an error.
-        ensures remembered { KeepsNames (measure W.width_of self.old.surface.widths)
-            self.old.surface self.new.surface }
-        // Each viewer that follows the surface still follows it, even after an error.
-        ensures followed { KeepsViewers (measure W.width_of) self.old.surface self.new.surface }
-        // A row whose number isn't above one that the surface had shows what it did then.
-        ensures numbered { NumbersRows self.old.surface self.new.surface }
+        // Clients, viewers, numbers and rows hold, even after an error.
+        ensures preserves { PreservesServing (measure W.width_of) self.old self.new }
     {
         self.responses.clear();
         self.surface.forget_unneeded();
@@ -120,15 +111,8 @@ impl<W: Widths> Source<W> {
             (trimmed self.old.surface) (map change_value changes.items)
             (next_number (trimmed self.old.surface).log - 1 + vec_len changes)
             result self.new.surface }
-        ensures number { self.new.number ≡ self.old.number }
-        ensures serves { KeepsClients (measure W.width_of) self.old self.new }
-        // What each number named it names still, even after an error.
-        ensures remembered { KeepsNames (measure W.width_of self.old.surface.widths)
-            self.old.surface self.new.surface }
-        // Each viewer that follows the surface still follows it, even after an error.
-        ensures followed { KeepsViewers (measure W.width_of) self.old.surface self.new.surface }
-        // A row whose number isn't above one that the surface had shows what it did then.
-        ensures numbered { NumbersRows self.old.surface self.new.surface }
+        // Clients, viewers, numbers and rows hold, even after an error.
+        ensures preserves { PreservesServing (measure W.width_of) self.old self.new }
     {
         self.responses.clear();
         self.surface.forget_unneeded();
@@ -154,15 +138,8 @@ impl<W: Widths> Source<W> {
             (map change_value changes.items))
             result scrollback.old.lines.items scrollback.new.lines.items }
         ensures spare { spare_lines scrollback.new ≤ spare_lines scrollback.old }
-        ensures number { self.new.number ≡ self.old.number }
-        ensures serves { KeepsClients (measure W.width_of) self.old self.new }
-        // What each number named it names still, even after an error.
-        ensures remembered { KeepsNames (measure W.width_of self.old.surface.widths)
-            self.old.surface self.new.surface }
-        // Each viewer that follows the surface still follows it, even after an error.
-        ensures followed { KeepsViewers (measure W.width_of) self.old.surface self.new.surface }
-        // A row whose number isn't above one that the surface had shows what it did then.
-        ensures numbered { NumbersRows self.old.surface self.new.surface }
+        // Clients, viewers, numbers and rows hold, even after an error.
+        ensures preserves { PreservesServing (measure W.width_of) self.old self.new }
     {
         self.responses.clear();
         self.surface.forget_unneeded();
@@ -175,15 +152,8 @@ impl<W: Widths> Source<W> {
             (trimmed self.old.surface) (map change_value changes.now)
             (next_number (trimmed self.old.surface).log - 1 + length changes.now)
             result self.new.surface }
-        ensures number { self.new.number ≡ self.old.number }
-        ensures serves { KeepsClients (measure W.width_of) self.old self.new }
-        // What each number named it names still, even after an error.
-        ensures remembered { KeepsNames (measure W.width_of self.old.surface.widths)
-            self.old.surface self.new.surface }
-        // Each viewer that follows the surface still follows it, even after an error.
-        ensures followed { KeepsViewers (measure W.width_of) self.old.surface self.new.surface }
-        // A row whose number isn't above one that the surface had shows what it did then.
-        ensures numbered { NumbersRows self.old.surface self.new.surface }
+        // Clients, viewers, numbers and rows hold, even after an error.
+        ensures preserves { PreservesServing (measure W.width_of) self.old self.new }
     {
         self.responses.clear();
         self.surface.forget_unneeded();
@@ -196,15 +166,8 @@ impl<W: Widths> Source<W> {
             self.old.surface (map lent_value changes.now)
             (next_number self.old.surface.log - 1 + length changes.now)
             result self.new.surface }
-        ensures number { self.new.number ≡ self.old.number }
-        ensures serves { KeepsClients (measure W.width_of) self.old self.new }
-        // What each number named it names still, even after an error.
-        ensures remembered { KeepsNames (measure W.width_of self.old.surface.widths)
-            self.old.surface self.new.surface }
-        // Each viewer that follows the surface still follows it, even after an error.
-        ensures followed { KeepsViewers (measure W.width_of) self.old.surface self.new.surface }
-        // A row whose number isn't above one that the surface had shows what it did then.
-        ensures numbered { NumbersRows self.old.surface self.new.surface }
+        // Clients, viewers, numbers and rows hold, even after an error.
+        ensures preserves { PreservesServing (measure W.width_of) self.old self.new }
     {
         self.responses.clear();
         self.surface.add_unlogged(changes)
@@ -229,15 +192,8 @@ impl<W: Widths> Source<W> {
             (screen_of self.old.surface) (kept_of self.old.surface) (map lent_value changes.now))
             result scrollback.old.lines.items scrollback.new.lines.items }
         ensures spare { spare_lines scrollback.new ≤ spare_lines scrollback.old }
-        ensures number { self.new.number ≡ self.old.number }
-        ensures serves { KeepsClients (measure W.width_of) self.old self.new }
-        // What each number named it names still, even after an error.
-        ensures remembered { KeepsNames (measure W.width_of self.old.surface.widths)
-            self.old.surface self.new.surface }
-        // Each viewer that follows the surface still follows it, even after an error.
-        ensures followed { KeepsViewers (measure W.width_of) self.old.surface self.new.surface }
-        // A row whose number isn't above one that the surface had shows what it did then.
-        ensures numbered { NumbersRows self.old.surface self.new.surface }
+        // Clients, viewers, numbers and rows hold, even after an error.
+        ensures preserves { PreservesServing (measure W.width_of) self.old self.new }
     {
         self.responses.clear();
         self.surface.add_unlogged_scrolling(changes, scrollback)
@@ -260,15 +216,8 @@ impl<W: Widths> Source<W> {
         ensures region { OnOk result (HasDrawn (measure W.width_of)
             self.old.surface other.now x y (screen_of self.new.surface)) }
         ensures no_scroll { result ≡ Err ScrollRegion → ⊥ }
-        ensures number { self.new.number ≡ self.old.number }
-        ensures serves { KeepsClients (measure W.width_of) self.old self.new }
-        // What each number named it names still, even after an error.
-        ensures remembered { KeepsNames (measure W.width_of self.old.surface.widths)
-            self.old.surface self.new.surface }
-        // Each viewer that follows the surface still follows it, even after an error.
-        ensures followed { KeepsViewers (measure W.width_of) self.old.surface self.new.surface }
-        // A row whose number isn't above one that the surface had shows what it did then.
-        ensures numbered { NumbersRows self.old.surface self.new.surface }
+        // Clients, viewers, numbers and rows hold, even after an error.
+        ensures preserves { PreservesServing (measure W.width_of) self.old self.new }
     {
         self.responses.clear();
         self.surface.forget_unneeded();
@@ -294,15 +243,8 @@ impl<W: Widths> Source<W> {
             let r = copied_region old src_x src_y width height dest_x dest_y in
             HasCopied self.old.surface r (screen_of self.new.surface)) }
         ensures no_scroll { result ≡ Err ScrollRegion → ⊥ }
-        ensures number { self.new.number ≡ self.old.number }
-        ensures serves { KeepsClients (measure W.width_of) self.old self.new }
-        // What each number named it names still, even after an error.
-        ensures remembered { KeepsNames (measure W.width_of self.old.surface.widths)
-            self.old.surface self.new.surface }
-        // Each viewer that follows the surface still follows it, even after an error.
-        ensures followed { KeepsViewers (measure W.width_of) self.old.surface self.new.surface }
-        // A row whose number isn't above one that the surface had shows what it did then.
-        ensures numbered { NumbersRows self.old.surface self.new.surface }
+        // Clients, viewers, numbers and rows hold, even after an error.
+        ensures preserves { PreservesServing (measure W.width_of) self.old self.new }
     {
         self.responses.clear();
         self.surface.forget_unneeded();
@@ -332,15 +274,8 @@ impl<W: Widths> Source<W> {
             let r = copied_region old src_x src_y width height dest_x dest_y in
             HasCopied self.old.surface r (screen_of self.new.surface)) }
         ensures no_scroll { result ≡ Err ScrollRegion → ⊥ }
-        ensures number { self.new.number ≡ self.old.number }
-        ensures serves { KeepsClients (measure W.width_of) self.old self.new }
-        // What each number named it names still, even after an error.
-        ensures remembered { KeepsNames (measure W.width_of self.old.surface.widths)
-            self.old.surface self.new.surface }
-        // Each viewer that follows the surface still follows it, even after an error.
-        ensures followed { KeepsViewers (measure W.width_of) self.old.surface self.new.surface }
-        // A row whose number isn't above one that the surface had shows what it did then.
-        ensures numbered { NumbersRows self.old.surface self.new.surface }
+        // Clients, viewers, numbers and rows hold, even after an error.
+        ensures preserves { PreservesServing (measure W.width_of) self.old self.new }
     {
         self.responses.clear();
         self.surface.forget_unneeded();
@@ -352,15 +287,8 @@ impl<W: Widths> Source<W> {
     pub fn resize(&mut self, width: usize, height: usize) -> Result<(), SurfaceError>
         requires size { IsSurfaceSize width height }
         ensures resizes { Resizes self.old.surface width height result self.new.surface }
-        ensures number { self.new.number ≡ self.old.number }
-        ensures serves { KeepsClients (measure W.width_of) self.old self.new }
-        // What each number named it names still, even after an error.
-        ensures remembered { KeepsNames (measure W.width_of self.old.surface.widths)
-            self.old.surface self.new.surface }
-        // Each viewer that follows the surface still follows it, even after an error.
-        ensures followed { KeepsViewers (measure W.width_of) self.old.surface self.new.surface }
-        // A row whose number isn't above one that the surface had shows what it did then.
-        ensures numbered { NumbersRows self.old.surface self.new.surface }
+        // Clients, viewers, numbers and rows hold, even after an error.
+        ensures preserves { PreservesServing (measure W.width_of) self.old self.new }
     {
         self.responses.clear();
         self.surface.resize(width, height)
@@ -372,14 +300,8 @@ impl<W: Widths> Source<W> {
         ensures flushes { self.new ≡ record self.old {
           surface = with_log self.old.surface (flushed self.old.surface.log seq);
         } }
-        ensures serves { KeepsClients (measure W.width_of) self.old self.new }
-        // What each number named it names still, even after an error.
-        ensures remembered { KeepsNames (measure W.width_of self.old.surface.widths)
-            self.old.surface self.new.surface }
-        // Each viewer that follows the surface still follows it.
-        ensures followed { KeepsViewers (measure W.width_of) self.old.surface self.new.surface }
-        // A row whose number isn't above one that the surface had shows what it did then.
-        ensures numbered { NumbersRows self.old.surface self.new.surface }
+        // Clients, viewers, numbers and rows hold.
+        ensures preserves { PreservesServing (measure W.width_of) self.old self.new }
     {
         self.responses.clear();
         self.surface.flush_changes_older_than(seq);
@@ -408,14 +330,8 @@ impl<W: Widths> Source<W> {
             self.new ≡ record self.old { surface = trimmed self.old.surface }) }
         ensures err { OnErr result (self.new ≡ self.old) }
         ensures begins { OnErr result ((more : List ℕ) × (out.new.items ≡ out.old.items ++ more)) }
-        ensures serves { KeepsClients (measure W.width_of) self.old self.new }
-        // What each number named it names still, even after an error.
-        ensures remembered { KeepsNames (measure W.width_of self.old.surface.widths)
-            self.old.surface self.new.surface }
-        // Each viewer that follows the surface still follows it, even after an error.
-        ensures followed { KeepsViewers (measure W.width_of) self.old.surface self.new.surface }
-        // A row whose number isn't above one that the surface had shows what it did then.
-        ensures numbered { NumbersRows self.old.surface self.new.surface }
+        // Clients, viewers, numbers and rows hold, even after an error.
+        ensures preserves { PreservesServing (measure W.width_of) self.old self.new }
     {
         let from = self.number_asked(ask);
         let is_delta = self.responses.prepare(&self.surface, self.number, from)?;
@@ -438,14 +354,8 @@ impl<W: Widths> Source<W> {
             self.new ≡ record self.old { surface = trimmed self.old.surface }) }
         ensures err { OnErr result (self.new ≡ self.old) }
         ensures unwritten { OnErr result (room.new ≡ room.old) }
-        ensures serves { KeepsClients (measure W.width_of) self.old self.new }
-        // What each number named it names still, even after an error.
-        ensures remembered { KeepsNames (measure W.width_of self.old.surface.widths)
-            self.old.surface self.new.surface }
-        // Each viewer that follows the surface still follows it, even after an error.
-        ensures followed { KeepsViewers (measure W.width_of) self.old.surface self.new.surface }
-        // A row whose number isn't above one that the surface had shows what it did then.
-        ensures numbered { NumbersRows self.old.surface self.new.surface }
+        // Clients, viewers, numbers and rows hold, even after an error.
+        ensures preserves { PreservesServing (measure W.width_of) self.old self.new }
     {
         let from = self.number_asked(ask);
         let is_delta = self.responses.prepare(&self.surface, self.number, from)?;

@@ -13,6 +13,7 @@ mod DiffSurfaces
 pub mod Remembering
 mod Forgetting
 mod Unlogged
+pub mod Preserving
 mod Applying
 mod ScrolledOff
 mod Measuring

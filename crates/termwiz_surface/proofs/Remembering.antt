@@ -14,7 +14,7 @@ use Rattle.termwiz_surface.specs.Adding.{Makes, with_log}
 use Rattle.termwiz_surface.specs.Answer.{AnswerValue, IsGiven, Carries, is_stale}
 use Rattle.termwiz_surface.specs.Following.{LeadsTo}
 use Rattle.termwiz_surface.specs.Surface.{full_of, SameFrame, SurfaceValue, screen_of}
-use Rattle.termwiz_surface.specs.History.{Names, IsPast, GoesOn, KeepsNames}
+use Rattle.termwiz_surface.specs.History.{Names, NamesGoOn, IsPast, GoesOn, KeepsNames}
 use Rattle.termwiz_screen.specs.Log.{LogValue, next_number, due, is_known, delta_limit, appended, flushed, restarted}
 use Rattle.termwiz_screen.specs.Picture.{Pictures, screens, full_screens, played}
 use Rattle.termwiz_screen.specs.Print.{print_one, print_piece, piece_of, wraps, wrapped}
@@ -223,12 +223,31 @@ module _ {P : Type 0} (pictures : Pictures P) (f : List ℕ → ℕ) where
     ];
   }
 
+-- a surface that goes on twice goes on
+go_on : {P : Type 0} (pictures : Pictures P) {W : Type 0} (f : List ℕ → ℕ) (r s t : SurfaceValue W) → NamesGoOn pictures f r s → NamesGoOn pictures f s t → NamesGoOn pictures f r t
+go_on pictures f r s t first second past is =
+    let one = first past is in
+    let two = second one.later one.is_past in
+    record {
+      later = two.later;
+      alike = λ k le. two.alike k (omega (arith, le, one.grows)) ∙ one.alike k le;
+      grows = omega (arith, one.grows, two.grows);
+      is_past = two.is_past;
+    }
+
 module _ {W : Type 0} (f : List ℕ → ℕ) where
   -- nothing has changed
   pub keeps_same : (s : SurfaceValue W) → KeepsNames f s s
   keeps_same s = record {
     screen = λ past is. record { later = past; alike = λ k le. refl; grows = omega arith; is_past = is };
     full = λ past is. record { later = past; alike = λ k le. refl; grows = omega arith; is_past = is };
+  }
+
+  -- one call after another
+  pub keeps_then : (r s t : SurfaceValue W) → KeepsNames f r s → KeepsNames f s t → KeepsNames f r t
+  keeps_then r s t a b = record {
+    screen = go_on screens f r s t a.screen b.screen;
+    full = go_on full_screens f r s t a.full b.full;
   }
 
   -- changes that are made and logged

@@ -11,39 +11,21 @@ use Rattle.termwiz_screen.proofs.Logs.{passed-flushed, passed-unknown}
 use Rattle.termwiz_surface.specs.Adding.{with_log}
 use Rattle.termwiz_surface.specs.Asking.{knows}
 use Rattle.termwiz_surface.specs.Following.{ViewerValue, Follows}
-use Rattle.termwiz_surface.specs.History.{KeepsNames, NamesGoOn}
+use Rattle.termwiz_surface.specs.History.{KeepsNames}
 use Rattle.termwiz_surface.specs.RowNumbers.{NumbersRows, NumbersTouched}
 use Rattle.termwiz_surface.specs.Surface.{SurfaceValue, Becomes, screen_of, kept_of, full_of}
 use Rattle.termwiz_surface.specs.Touching.{touched}
 use Rattle.termwiz_surface.specs.Unlogged.{MakesUnlogged}
 use Rattle.termwiz_surface.proofs.RowNumbers.{makes-logged, numbers-makes, numbers-flushed, numbers-flushed_touched, numbers-then}
 use Rattle.termwiz_surface.proofs.Following.{Follows-makes, Leads-flushed}
-use Rattle.termwiz_surface.proofs.Remembering.{keeps_makes, keeps_flushed}
+use Rattle.termwiz_surface.proofs.Remembering.{keeps_makes, keeps_flushed, keeps_then}
 
 -- a call succeeded, and this holds then
 pub on-ok : {E A : Type 0} (result : Result (Unit {0}) E) → is_err result ≡ false → OnOk result A → A
 on-ok (Ok u) e a = a
 on-ok (Err x) e a = absurd (true≢false e)
 
--- two steps that leave what numbers name
-names-then : {P : Type 0} (pictures : Pictures P) {W : Type 0} (f : List ℕ → ℕ) (s t u : SurfaceValue W) → NamesGoOn pictures f s t → NamesGoOn pictures f t u → NamesGoOn pictures f s u
-names-then pictures f s t u first second = λ past is.
-    let one = first past is in
-    let two = second one.later one.is_past in
-    record {
-      later = two.later;
-      alike = λ k le. two.alike k (omega (arith, le, one.grows)) ∙ one.alike k le;
-      grows = omega (arith, one.grows, two.grows);
-      is_past = two.is_past;
-    }
-
 module _ {W : Type 0} where
-  keeps-then : (f : List ℕ → ℕ) (s t u : SurfaceValue W) → KeepsNames f s t → KeepsNames f t u → KeepsNames f s u
-  keeps-then f s t u first second = record {
-    screen = names-then screens f s t u first.screen second.screen;
-    full = names-then full_screens f s t u first.full second.full;
-  }
-
   -- the changes were made, and then counted
   pub makes-unlogged : (f : List ℕ → ℕ) (s m : SurfaceValue W) (cs : List ChangeValue) (mark : ℕ) → mark ≡ next_number s.log + length cs → Becomes (record s { mark = mark }) (replay f (screen_of s) cs) (replay_kept f (screen_of s) (kept_of s) cs) (touched f (screen_of s) cs) m → MakesUnlogged f s cs (with_log m (passed m.log (length cs)))
   makes-unlogged f s m cs mark e b = (
@@ -60,7 +42,7 @@ module _ {W : Type 0} where
     unlogged-unknown n = rw unlogged-log (passed-unknown s.log (length cs) _ n)
 
     pub keeps-unlogged : KeepsNames f s t
-    keeps-unlogged = subst (KeepsNames f s) (sym m.2) (keeps-then f s m.0 _ (keeps_makes f s m.0 cs m.1) (keeps_flushed f m.0 (next_number m.0.log)))
+    keeps-unlogged = subst (KeepsNames f s) (sym m.2) (keeps_then f s m.0 _ (keeps_makes f s m.0 cs m.1) (keeps_flushed f m.0 (next_number m.0.log)))
 
   pub numbers-unlogged : (f : List ℕ → ℕ) (s t : SurfaceValue W) (cs : List ChangeValue) → (length cs ≡ 0 → NumbersRows s t) → MakesUnlogged f s cs t → NumbersRows s t
   numbers-unlogged f s t cs none m = elim (cases_eq (length cs) 0) [
@@ -71,7 +53,7 @@ module _ {W : Type 0} where
   pub unlogged-touched : (f : List ℕ → ℕ) (s t : SurfaceValue W) (cs : List ChangeValue) → MakesUnlogged f s cs t → NumbersTouched f s cs t
   unlogged-touched f s t cs m = subst (NumbersTouched f s cs) (sym m.2) (numbers-flushed_touched f s m.0 cs (next_number m.0.log) m.1)
 
-  Follows-flushed : (f : W → List ℕ → ℕ) (v : ViewerValue W) (s : SurfaceValue W) (n : ℕ) → Follows f v s → Follows f v (with_log s (flushed s.log n))
+  pub Follows-flushed : (f : W → List ℕ → ℕ) (v : ViewerValue W) (s : SurfaceValue W) (n : ℕ) → Follows f v s → Follows f v (with_log s (flushed s.log n))
   Follows-flushed f v s n h = record {
     one_measure = h.one_measure;
     leads = Leads-flushed screens (f s.widths) (screen_of v.surface) (screen_of s) v.last n s.log h.leads;

@@ -9,7 +9,6 @@ use Rattle.termwiz_screen.specs.Log.{LogValue, next_number}
 use Rattle.termwiz_screen.specs.Picture.{Pictures, screens, full_screens}
 use Rattle.termwiz_surface.specs.Adding.{Makes}
 use Rattle.termwiz_screen.specs.FullScreen.{HasFullSize, full_replay}
-use Rattle.termwiz_surface.specs.History.{GoesOn, KeepsNames}
 use Rattle.termwiz_surface.specs.Surface.{SurfaceValue, screen_of, full_of}
 use Rattle.termwiz_screen.specs.Step.{replay, regions_fit}
 use Rattle.termwiz_surface.specs.declared.surface.SurfaceError.{SurfaceError}
@@ -18,26 +17,7 @@ use Rattle.termwiz_surface.proofs.Following.{Follows-none, Follows-same, Follows
 use Rattle.termwiz_screen.proofs.Logs.{restarted_number}
 use Rattle.termwiz_surface.proofs.RowNumbers.{restarted_least}
 
--- a surface that goes on twice goes on
-goes_then : {P : Type 0} (pictures : Pictures P) (f : List ℕ → ℕ) (past : ℕ → P) (n : ℕ) (p q : P) (log later : LogValue) (a : GoesOn pictures f past n p log) → GoesOn pictures f a.later (next_number log) q later → GoesOn pictures f past n q later
-goes_then pictures f past n p q log later a b = record {
-  later = b.later;
-  alike = λ k le. b.alike k (omega (arith, le, a.grows)) ∙ a.alike k le;
-  grows = omega (arith, a.grows, b.grows);
-  is_past = b.is_past;
-}
-
 module _ {W : Type 0} where
-  keeps_then : (f : List ℕ → ℕ) (s t u : SurfaceValue W) → KeepsNames f s t → KeepsNames f t u → KeepsNames f s u
-  keeps_then f s t u a b = record {
-    screen = λ past is. let x = a.screen past is in goes_then screens f past (next_number s.log) (screen_of t) (screen_of u) t.log u.log x (b.screen x.later x.is_past);
-    full = λ past is. let x = a.full past is in goes_then full_screens f past (next_number s.log) (full_of t) (full_of u) t.log u.log x (b.full x.later x.is_past);
-  }
-
-  -- a viewer that takes another size and then goes on, with the width value that it had
-  pub keeps_fitted : (f : W → List ℕ → ℕ) (s : SurfaceValue W) (old mid new : ViewerValue W) → IsFitted old s mid → KeepsNames (f old.surface.widths) old.surface mid.surface → KeepsNames (f mid.surface.widths) mid.surface new.surface → KeepsNames (f old.surface.widths) old.surface new.surface
-  keeps_fitted f s old mid new fitted a b = keeps_then (f old.surface.widths) old.surface mid.surface new.surface a (subst (λ w. KeepsNames (f w) mid.surface new.surface) (fitted_widths old s mid fitted) b)
-
   fitted_grows : (old : ViewerValue W) (s : SurfaceValue W) (new : ViewerValue W) → IsFitted old s new → next_number old.surface.log ≤ next_number new.surface.log
   fitted_grows old s new k = elim (cases_Bool (has_size_of old s)) [
     | inl e ↦ omega (arith, ap (λ (v : ViewerValue W). next_number v.surface.log) (k.same e))

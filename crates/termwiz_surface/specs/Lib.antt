@@ -11,6 +11,7 @@ pub mod Resizing
 pub mod Following
 pub mod Copies
 pub mod History
+pub mod Preserving
 pub mod Answer
 pub mod Asking
 pub mod Diffs
@@ -65,6 +66,7 @@ pub use Rattle.termwiz_surface.specs.Resizing.{HasResized, Resizes, resize_touch
 pub use Rattle.termwiz_surface.specs.Copies.{IsDrawn, IsCopied, IsRegionDrawn, drawn_region, copied_region}
 pub use Rattle.termwiz_surface.specs.Following.{ViewerValue, Follows, FollowsTo, KeepsViewers, Leads, FullLeads, blank_viewer, blank_viewer_from}
 pub use Rattle.termwiz_surface.specs.History.{Names, IsPast, KeepsNames}
+pub use Rattle.termwiz_surface.specs.Preserving.{Preserves}
 pub use Rattle.termwiz_surface.specs.Asking.{knows, own_repaint, most_own_entries, Repaints, StreamsFrom, StreamsFullyFrom}
 pub use Rattle.termwiz_surface.specs.Diffs.{MeasureAlike, screen_after, HasDrawn, HasCopied, region_at, cut_to, PrintsRegion, GivesRegion, region_diff, rows_of, top_rows, one_row, PrintsRows, HaveTopRows, HaveRow}
 pub use Rattle.termwiz_surface.specs.Answer.{delta_of, AnswerValue, IsGiven, Carries}

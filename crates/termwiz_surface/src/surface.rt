@@ -1,9 +1,9 @@
 //! Surfaces.
 ghost use Rattle.std.specs.Prelude.{◌≡◌, ◌+◌, ◌-◌, ◌<◌, ◌^◌, ◌∷◌, [], IfOk, OnErr, length, vec_len};
-ghost use Rattle.termwiz_surface.specs.{IsSurfaceSize, KeepsViewers, SameFrame, blank_surface};
+ghost use Rattle.termwiz_surface.specs.{IsSurfaceSize, Preserves, SameFrame, blank_surface};
 ghost use Rattle.termwiz_surface.specs.{blank_surface_from};
 ghost use Rattle.termwiz_surface.specs.{change_value, next_number, region_fits, regions_fit};
-ghost use Rattle.termwiz_surface.specs.{IsSound, KeepsNames, Makes, Refuses, false, measure};
+ghost use Rattle.termwiz_surface.specs.{IsSound, Makes, Refuses, false, measure};
 ghost use Rattle.termwiz_surface.specs.{Adds, IsOk, NumbersRows, OnOk, map, true};
 ghost use Rattle.termwiz_surface.specs.declared.surface.NewSurfaceError.TheVariants as errors;
 
@@ -353,12 +353,8 @@ impl<W: Widths> Surface<W> {
     pub fn add_change(&mut self, change: Change) -> Result<SequenceNo, SurfaceError>
         ensures adds { Adds (measure W.width_of self.old.widths)
             self.old (change_value change ∷ []) (next_number self.old.log) result self.new }
-        // Each viewer that follows the surface still follows it, even after an error.
-        ensures followed { KeepsViewers (measure W.width_of) self.old self.new }
-        // Its numbers still name what they named, even after an error.
-        ensures remembered { KeepsNames (measure W.width_of self.old.widths) self.old self.new }
-        // A row whose number isn't above one that the surface had shows what it did then.
-        ensures numbered { NumbersRows self.old self.new }
+        // Viewers, numbers and rows hold, even after an error.
+        ensures preserves { Preserves (measure W.width_of) self.old self.new }
     {
         self.refuse(slice::from_ref(&change))?;
         let number = self.log.next_number();
@@ -381,12 +377,8 @@ impl<W: Widths> Surface<W> {
             self.old (map change_value changes.items)
             (next_number self.old.log - 1 + vec_len changes) result self.new }
         ensures empty { vec_len changes ≡ 0 → IsOk result }
-        // Each viewer that follows the surface still follows it, even after an error.
-        ensures followed { KeepsViewers (measure W.width_of) self.old self.new }
-        // Its numbers still name what they named, even after an error.
-        ensures remembered { KeepsNames (measure W.width_of self.old.widths) self.old self.new }
-        // A row whose number isn't above one that the surface had shows what it did then.
-        ensures numbered { NumbersRows self.old self.new }
+        // Viewers, numbers and rows hold, even after an error.
+        ensures preserves { Preserves (measure W.width_of) self.old self.new }
     {
         self.refuse(changes.as_slice())?;
         let number = number_for(self.log.next_number(), changes.len());
@@ -403,12 +395,8 @@ impl<W: Widths> Surface<W> {
             self.old (map change_value changes.now)
             (next_number self.old.log - 1 + length changes.now) result self.new }
         ensures empty { length changes.now ≡ 0 → IsOk result }
-        // Each viewer that follows the surface still follows it, even after an error.
-        ensures followed { KeepsViewers (measure W.width_of) self.old self.new }
-        // Its numbers still name what they named, even after an error.
-        ensures remembered { KeepsNames (measure W.width_of self.old.widths) self.old self.new }
-        // A row whose number isn't above one that the surface had shows what it did then.
-        ensures numbered { NumbersRows self.old self.new }
+        // Viewers, numbers and rows hold, even after an error.
+        ensures preserves { Preserves (measure W.width_of) self.old self.new }
     {
         self.refuse(changes)?;
         let number = number_for(self.log.next_number(), changes.len());

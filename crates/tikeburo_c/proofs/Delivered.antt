@@ -107,7 +107,7 @@ pub serves_answered : (bytes : List ℕ) (surface client new : Option Kept) (old
 serves_answered bytes (Some (Surface s)) (Some (Client c)) (Some (Surface t)) old_room new_room outcome serves answers = elim answers.others [
   | inl unread ↦ subst (λ (u : SourceValue ChosenWidths). Serves columns_by u c) (sym (ap (λ (p : SourceValue ChosenWidths × Buffer). p.0) unread.1)) serves
   | inr (inl refused) ↦ subst (λ (u : SourceValue ChosenWidths). Serves columns_by u c) (sym (ap (λ (p : SourceValue ChosenWidths × Buffer). p.0) refused.1)) serves
-  | inr (inr answered) ↦ answered.2.goes_on.serves c serves
+  | inr (inr answered) ↦ answered.2.preserves.clients c serves
 ]
 serves_answered bytes (Some (Surface s)) (Some (Client c)) (Some (Viewer f)) old_room new_room outcome serves none = none
 serves_answered bytes (Some (Surface s)) (Some (Client c)) (Some (Lines l)) old_room new_room outcome serves none = none

@@ -4,11 +4,9 @@ use Rattle.std.specs.declared.alloc.Global.{Global}
 use Rattle.std.specs.declared.vec.Vec.{Vec}
 use Rattle.termwiz_cell.specs.ChangeValue.{ChangeValue, change_value}
 use Rattle.termwiz_cell.specs.declared.change.Change.{Change}
-use Rattle.termwiz_share.specs.Serving.{KeepsClients}
+use Rattle.termwiz_share.specs.Serving.{PreservesServing}
 use Rattle.termwiz_share.specs.Source.{SourceValue, trimmed}
 use Rattle.termwiz_surface.specs.Adding.{Adds}
-use Rattle.termwiz_surface.specs.Following.{KeepsViewers}
-use Rattle.termwiz_surface.specs.RowNumbers.{NumbersRows}
 use Rattle.termwiz_surface.specs.Unlogged.{AddsUnlogged}
 use Rattle.termwiz_surface.specs.declared.surface.SurfaceError.{SurfaceError}
 use Rattle.termwiz_wire.specs.Answers.{changes_at}
@@ -21,21 +19,13 @@ use Rattle.tikeburo_c.specs.declared.failure.Failure.{Failure}
 use Rattle.tikeburo_c.specs.declared.failure.Failure.TheVariants.{Memory}
 use Rattle.tikeburo_c.specs.declared.widths.ChosenWidths.{ChosenWidths}
 
--- what stays with each change, whatever comes of it: the number, the clients that show the surface,
--- the viewers that follow it, and what rows' numbers say of its rows
-pub record GoesOn (old new : SourceValue ChosenWidths) : Type 0 where
-  pub number : new.number ≡ old.number
-  pub serves : KeepsClients columns_by old new
-  pub followed : KeepsViewers columns_by old.surface new.surface
-  pub numbered : NumbersRows old.surface new.surface
-
 -- the list of changes is added as the library adds it, whatever number that returns
 abbrev pub AddsList :
     List ChangeValue → SourceValue ChosenWidths → Outcome → SourceValue ChosenWidths → Type 0
 AddsList changes old outcome new =
     (number : ℕ) × (added : Result ℕ SurfaceError) × (outcome ≡ outcome_of changing_failure added) ×
     Adds (columns_by old.surface.widths) (trimmed old.surface) changes number added new.surface ×
-    GoesOn old new
+    PreservesServing columns_by old new
 
 -- the list of changes is made as the library makes it that logs none of them, whatever number that
 -- returns
@@ -44,7 +34,7 @@ abbrev pub AddsListUnlogged :
 AddsListUnlogged changes old outcome new =
     (number : ℕ) × (added : Result ℕ SurfaceError) × (outcome ≡ outcome_of changing_failure added) ×
     AddsUnlogged (columns_by old.surface.widths) old.surface changes number added new.surface ×
-    GoesOn old new
+    PreservesServing columns_by old new
 
 -- the one list that the bytes encode, with nothing behind it
 abbrev pub IsOnlyList : (List ℕ → ℕ) → List ℕ → Result (Vec Change Global) Failure → Type 0

@@ -1,10 +1,10 @@
 -- How surfaces are drawn on others, and regions copied.
 use Rattle.std.specs.Prelude.{◌≡◌, ℕ, Result, Err, OnOk, Option, Some, None}
+use Rattle.termwiz_share.specs.Serving.{PreservesServing}
 use Rattle.termwiz_share.specs.Source.{SourceValue, trimmed}
 use Rattle.termwiz_surface.specs.{HasCopied, HasDrawn, IsCopied, IsDrawn, IsRegionDrawn, SurfaceValue, copied_region, screen_of}
 use Rattle.termwiz_surface.specs.declared.surface.SurfaceError.{SurfaceError}
 use Rattle.termwiz_surface.specs.declared.surface.SurfaceError.TheVariants.{ScrollRegion}
-use Rattle.tikeburo_c.specs.Changes.{GoesOn}
 use Rattle.tikeburo_c.specs.Kept.{shown_of}
 use Rattle.tikeburo_c.specs.Outcomes.{Outcome, changing_failure, outcome_of}
 use Rattle.tikeburo_c.specs.Results.{OnSurface, Refused, OfKind}
@@ -26,7 +26,7 @@ pub record DrawsAs (source : SurfaceValue ChosenWidths) (x y : ℕ) (old : Sourc
   -- its rows are there, where no wide grapheme crosses an edge
   pub region : OnOk result (HasDrawn columns_by old.surface source x y (screen_of new.surface))
   pub no_scroll : result ≡ Err ScrollRegion → ⊥
-  pub goes_on : GoesOn old new
+  pub preserves : PreservesServing columns_by old new
 
 abbrev pub Draws :
     SurfaceValue ChosenWidths → ℕ → ℕ → SourceValue ChosenWidths → Outcome →
@@ -56,7 +56,7 @@ pub record CopiesAs (from_x from_y width height x y : ℕ) (old : SourceValue Ch
       (HasCopied old.surface (copied_region (screen_of old.surface) from_x from_y width height x y)
       (screen_of new.surface))
   pub no_scroll : result ≡ Err ScrollRegion → ⊥
-  pub goes_on : GoesOn old new
+  pub preserves : PreservesServing columns_by old new
 
 abbrev pub Copies :
     (from_x from_y width height x y : ℕ) → SourceValue ChosenWidths → Outcome →
@@ -82,7 +82,7 @@ pub record DrawsRegionAs (from_x from_y width height x y : ℕ) (old : SourceVal
       (HasCopied old.surface (copied_region (screen_of old.surface) from_x from_y width height x y)
       (screen_of new.surface))
   pub no_scroll : result ≡ Err ScrollRegion → ⊥
-  pub goes_on : GoesOn old new
+  pub preserves : PreservesServing columns_by old new
 
 abbrev pub DrawsRegion :
     (from_x from_y width height x y : ℕ) → SourceValue ChosenWidths → Outcome →

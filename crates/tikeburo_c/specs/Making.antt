@@ -2,15 +2,15 @@
 use Rattle.std.specs.Borrow.{Bor}
 use Rattle.std.specs.Prelude.{◌≡◌, ℕ, ◌^◌, Bool, true, ◌&&◌, nat_lt, List, Result, Option, Some, None, [], if◌then◌else◌, MatchBool}
 use Rattle.termwiz_share.specs.Client.{ClientValue}
+use Rattle.termwiz_share.specs.Serving.{PreservesServing}
 use Rattle.termwiz_share.specs.Source.{SourceValue}
 use Rattle.termwiz_surface.specs.Resizing.{Resizes}
 use Rattle.termwiz_surface.specs.Surface.{blank_surface}
 use Rattle.termwiz_surface.specs.declared.surface.SurfaceError.{SurfaceError}
 use Rattle.termwiz_wire.specs.declared.fault.Limits.{Limits}
-use Rattle.tikeburo_c.specs.Changes.{GoesOn}
 use Rattle.tikeburo_c.specs.Outcomes.{Outcome, changing_failure, outcome_of}
 use Rattle.tikeburo_c.specs.Results.{OnSurface, OrNoMemory, Refused, Returns}
-use Rattle.tikeburo_c.specs.Widths.{AreBy, widths_at}
+use Rattle.tikeburo_c.specs.Widths.{AreBy, columns_by, widths_at}
 use Rattle.tikeburo_c.specs.declared.failure.Failure.TheVariants.{Range}
 use Rattle.tikeburo_c.specs.declared.kept.Kept.{Kept}
 use Rattle.tikeburo_c.specs.declared.kept.Kept.TheVariants.{Surface, Client}
@@ -55,7 +55,7 @@ abbrev pub TakesSize :
     ℕ → ℕ → SourceValue ChosenWidths → Outcome → SourceValue ChosenWidths → Type 0
 TakesSize width height old outcome new =
     (resized : Result (Unit {0}) SurfaceError) × (outcome ≡ outcome_of changing_failure resized) ×
-    Resizes old.surface width height resized new.surface × GoesOn old new
+    Resizes old.surface width height resized new.surface × PreservesServing columns_by old new
 
 abbrev pub ResizesIn : ℕ → ℕ → Option Kept → Outcome → Option Kept → Type 0
 ResizesIn width height old outcome new =

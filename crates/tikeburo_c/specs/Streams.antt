@@ -5,7 +5,7 @@ use Rattle.cbor.specs.declared.error.FaultKind.TheVariants as faults
 use Rattle.termwiz_share.specs.Client.{ClientValue, IsReady, ask_of}
 use Rattle.termwiz_share.specs.Feeding.{Feeds, Keeps, TakesNext}
 use Rattle.termwiz_share.specs.Histories.{Follows, FollowsNext, FollowsTo, Given}
-use Rattle.termwiz_share.specs.Serving.{KeepsSources, Serves, Shows}
+use Rattle.termwiz_share.specs.Serving.{KeepsSources, PreservesServing, Serves, Shows}
 use Rattle.termwiz_share.specs.Source.{IsResponse, SourceValue, response_bytes, trimmed}
 use Rattle.termwiz_share.specs.declared.error.ClientError.{ClientError}
 use Rattle.termwiz_share.specs.declared.error.ClientError.TheVariants as errors
@@ -17,7 +17,6 @@ use Rattle.termwiz_surface.specs.Surface.{full_of}
 use Rattle.termwiz_wire.specs.Answers.{ask_at}
 use Rattle.termwiz_wire.specs.Sent.{IsAsk, ask}
 use Rattle.termwiz_wire.specs.declared.sent.Ask.{Ask}
-use Rattle.tikeburo_c.specs.Changes.{GoesOn}
 use Rattle.tikeburo_c.specs.Outcomes.{Outcome, unread_as}
 use Rattle.tikeburo_c.specs.Results.{Buffer, Gives, OnClientAnd, OrNoMemory, Refused}
 use Rattle.tikeburo_c.specs.Widths.{columns_by}
@@ -50,7 +49,7 @@ pub record AnswersAsk (a : Ask) (old : Answering) (outcome : Outcome) (new : Ans
   pub given : bytes ≡ response_bytes columns_by new.0 a
   pub gives : Gives bytes old.1 outcome new.1
   pub trims : new.0 ≡ record old.0 { surface = trimmed old.0.surface }
-  pub goes_on : GoesOn old.0 new.0
+  pub preserves : PreservesServing columns_by old.0 new.0
 
 -- it answers some ask that the bytes encode
 abbrev pub AnswersEncoded : List ℕ → Answering → Outcome → Answering → Type 0

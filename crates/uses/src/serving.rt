@@ -1,9 +1,9 @@
 //! A screen that is shared with three clients: each asks, is answered, and shows what it is sent.
 ghost use Rattle.std.specs.Prelude.{◌≡◌, ◌+◌, ◌<◌, ◌∷◌, [], IfErr, IfOk, OnErr, OnOk, map, true};
-ghost use Rattle.uses.specs.{Adds, IsReady, IsResponse, IsSurfaceSize, KeepsClients, KeepsNames};
+ghost use Rattle.uses.specs.{Adds, IsReady, IsResponse, IsSurfaceSize, KeepsClients};
 ghost use Rattle.uses.specs.{MayRefuse, Serves, ServesAll, ServesOnce, Shares, ShowsAll, Stands};
 ghost use Rattle.uses.specs.{blank_surface, change_value, full_after, full_of, measure};
-ghost use Rattle.uses.specs.{next_number, trimmed};
+ghost use Rattle.uses.specs.{PreservesServing, next_number, trimmed};
 
 use std::alloc::{AllocError, Global};
 use std::marker::Model;
@@ -194,13 +194,10 @@ pub(crate) fn make<W: Widths>(
     // Which error comes when.
     ensures refuses { IfErr result (λ error.
         MayRefuse source.old.surface (change_value change ∷ []) error) }
-    ensures number { source.new.number ≡ source.old.number }
     ensures widths { source.new.surface.widths ≡ source.old.surface.widths }
     ensures counted { OnOk result (next_number source.new.surface.log
         ≡ next_number source.old.surface.log + 1) }
-    ensures others { KeepsClients (measure W.width_of) source.old source.new }
-    ensures remembered { KeepsNames (measure W.width_of source.old.surface.widths)
-        source.old.surface source.new.surface }
+    ensures preserves { PreservesServing (measure W.width_of) source.old source.new }
 {
     // Changes make a full screen of a full screen.
     full_repaint_laws();
@@ -246,12 +243,9 @@ pub(crate) fn response<W: Widths>(
     ensures trims { OnOk result (
         source.new ≡ record source.old { surface = trimmed source.old.surface }) }
     ensures kept { OnErr result (source.new ≡ source.old) }
-    ensures number { source.new.number ≡ source.old.number }
     ensures same { full_of source.new.surface ≡ full_of source.old.surface }
     ensures widths { source.new.surface.widths ≡ source.old.surface.widths }
-    ensures others { KeepsClients (measure W.width_of) source.old source.new }
-    ensures remembered { KeepsNames (measure W.width_of source.old.surface.widths)
-        source.old.surface source.new.surface }
+    ensures preserves { PreservesServing (measure W.width_of) source.old source.new }
 {
     let mut bytes = Vec::new(alloc);
     source.respond(ask, &mut bytes)?;

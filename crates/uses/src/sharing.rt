@@ -2,7 +2,7 @@
 //! have. `serving.rt` has both ends of a stream of answers.
 ghost use Rattle.std.specs.Prelude.{◌≡◌, ◌<◌, ◌≤◌, [], IfOk, OnOk, false, true, ℕ};
 ghost use Rattle.uses.specs.{All, Any, Follows, FollowsTo, FullScreen, IsPastOf, Screen};
-ghost use Rattle.uses.specs.{IsServed, KeepsNames, ShowsNamed, ViewerValue, blank_viewer, flushed};
+ghost use Rattle.uses.specs.{IsServed, Preserves, ShowsNamed, ViewerValue, blank_viewer, flushed};
 ghost use Rattle.uses.specs.{full_of, full_screens, is_known, measure, screen_of, screens};
 
 use std::alloc::{AllocError, Global};
@@ -44,8 +44,7 @@ pub fn forget_delivered<W: Widths>(surface: &mut Surface<W>, given: &[SequenceNo
         surface.new.log ≡ flushed surface.old.log n }
     ensures nothing { given.now ≡ [] → surface.new ≡ surface.old }
     ensures unchanged { screen_of surface.new ≡ screen_of surface.old }
-    ensures remembered { KeepsNames (measure W.width_of surface.old.widths)
-        surface.old surface.new }
+    ensures preserves { Preserves (measure W.width_of) surface.old surface.new }
 {
     if let Some(least) = given.iter().copied().min() {
         surface.flush_changes_older_than(least);

@@ -1,7 +1,8 @@
 //! One client of two sources: whatever order their answers come in, and however often, it shows
 //! what the last one that fits was given for.
 ghost use Rattle.std.specs.Prelude.{◌≡◌, ◌≢◌, ◌∷◌, ◌++◌, [], IfErr, IfOk, List, OnOk, ℕ};
-ghost use Rattle.termwiz_share.specs.{Follows, Given, KeepsClients, Shows};
+ghost use Rattle.termwiz_share.specs.{Follows, Given, Shows};
+ghost use Rattle.uses.specs.{KeepsClients};
 ghost use Rattle.uses.specs.{AnswersTwice, FailsToAnswer, FailsToAnswerBoth, FailsToShow};
 ghost use Rattle.uses.specs.{FeedsBoth, FeedsInTwo, FullScreen, HasNoFault, IsPastOf};
 ghost use Rattle.uses.specs.{IsStreamOfBoth, ShowsLast, change_value, full_after, full_of};

@@ -8,7 +8,7 @@ ghost use Rattle.sessions.specs.SendSteps.{HasNamed, Steps};
 ghost use Rattle.sessions.specs.Sending.{AreSent, Happens, IsAnswered, IsSendInRange, columns};
 ghost use Rattle.termwiz_share.specs.Client.{Shown};
 ghost use Rattle.termwiz_share.specs.Histories.{Given};
-ghost use Rattle.termwiz_share.specs.{KeepsClients};
+ghost use Rattle.termwiz_share.specs.Serving.{KeepsClients};
 ghost use Rattle.termwiz_surface.specs.{IsSurfaceSize};
 
 use std::alloc::{AllocError, Global};

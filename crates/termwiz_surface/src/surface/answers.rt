@@ -1,10 +1,10 @@
 //! The answers that viewers get: the changes that they lack, or a repaint.
 ghost use Rattle.std.specs.Prelude.{◌≡◌, ◌≤◌, ◌==◌, [], IfOk, IsOkAnd, false, length, map, true, ℕ};
 ghost use Rattle.termwiz_surface.specs.{IsOwnedSlice, Repaints, StreamsFullyFrom, most_own_entries};
-ghost use Rattle.termwiz_surface.specs.{KeepsViewers, StreamsFrom, change_value, due, full_repaint};
+ghost use Rattle.termwiz_surface.specs.{Preserves, StreamsFrom, change_value, due, full_repaint};
 ghost use Rattle.termwiz_surface.specs.{Lends, delta_limit, next_number, own_repaint, regions_fit};
-ghost use Rattle.termwiz_surface.specs.{KeepsNames, forgotten, is_known, not, screen_of, stream_of};
-ghost use Rattle.termwiz_surface.specs.{NumbersRows, flushed, full_of, knows, measure, repaint};
+ghost use Rattle.termwiz_surface.specs.{forgotten, is_known, not, screen_of, stream_of};
+ghost use Rattle.termwiz_surface.specs.{flushed, full_of, knows, measure, repaint};
 ghost use Rattle.termwiz_surface.specs.{with_log};
 
 use super::Surface;
@@ -37,12 +37,8 @@ impl<W: Widths> Surface<W> {
             × (due self.new.log n ≡ due self.old.log n) }
         // At the number of the next change all changes are forgotten.
         ensures emptied { seq ≡ next_number self.old.log → self.new.log.changes ≡ [] }
-        // Each viewer that follows the surface still follows it.
-        ensures followed { KeepsViewers (measure W.width_of) self.old self.new }
-        // Its numbers still name what they named.
-        ensures remembered { KeepsNames (measure W.width_of self.old.widths) self.old self.new }
-        // A row whose number isn't above one that the surface had shows what it did then.
-        ensures numbered { NumbersRows self.old self.new }
+        // Viewers, numbers and rows hold.
+        ensures preserves { Preserves (measure W.width_of) self.old self.new }
     {
         self.log.flush(seq);
     }
@@ -59,12 +55,8 @@ impl<W: Widths> Surface<W> {
             × (knows self.old n ≡ true → due self.new.log n ≡ due self.old.log n) }
         ensures few { length self.new.log.changes
             ≤ delta_limit self.new.width self.new.height }
-        // Each viewer that follows the surface still follows it.
-        ensures followed { KeepsViewers (measure W.width_of) self.old self.new }
-        // Its numbers still name what they named.
-        ensures remembered { KeepsNames (measure W.width_of self.old.widths) self.old self.new }
-        // A row whose number isn't above one that the surface had shows what it did then.
-        ensures numbered { NumbersRows self.old self.new }
+        // Viewers, numbers and rows hold.
+        ensures preserves { Preserves (measure W.width_of) self.old self.new }
     {
         let most = delta_limit(self.width, self.height);
         let first = self.log.next_number().saturating_sub(most);

@@ -1,7 +1,7 @@
 //! Drawing a surface on another one, and copying a region of a surface within it.
 ghost use Rattle.std.specs.Prelude.{◌≡◌, Err, IfOk, OnOk, map};
-ghost use Rattle.termwiz_surface.specs.{HasCopied, HasDrawn, IsCopied, IsDrawn, KeepsNames};
-ghost use Rattle.termwiz_surface.specs.{KeepsViewers, NumbersRows, ScrollRegion, change_value};
+ghost use Rattle.termwiz_surface.specs.{HasCopied, HasDrawn, IsCopied, IsDrawn, Preserves};
+ghost use Rattle.termwiz_surface.specs.{ScrollRegion, change_value};
 ghost use Rattle.termwiz_surface.specs.{IsRegionDrawn, copied_region, measure, restoring};
 ghost use Rattle.termwiz_surface.specs.{screen_of};
 
@@ -41,13 +41,8 @@ impl<W: Widths> Surface<W> {
         ensures region { OnOk result (
             HasDrawn (measure W.width_of) self.old other.now x y (screen_of self.new)) }
         ensures no_scroll { result ≡ Err ScrollRegion → ⊥ }
-        // Each viewer that follows the surface still follows it, even after an error, and whatever
-        // width value the other surface has.
-        ensures followed { KeepsViewers (measure W.width_of) self.old self.new }
-        // Its numbers still name what they named, even after an error.
-        ensures remembered { KeepsNames (measure W.width_of self.old.widths) self.old self.new }
-        // A row whose number isn't above one that the surface had shows what it did then.
-        ensures numbered { NumbersRows self.old self.new }
+        // Viewers, numbers and rows hold, even after an error.
+        ensures preserves { Preserves (measure W.width_of) self.old self.new }
     {
         let (width, height) = other.dimensions();
         let printed = self.diff_region(x, y, width, height, other, 0, 0)?;
@@ -85,12 +80,8 @@ impl<W: Widths> Surface<W> {
             let r = copied_region (screen_of self.old) src_x src_y width height dest_x dest_y in
             HasCopied self.old r (screen_of self.new)) }
         ensures no_scroll { result ≡ Err ScrollRegion → ⊥ }
-        // Each viewer that follows the surface still follows it, even after an error.
-        ensures followed { KeepsViewers (measure W.width_of) self.old self.new }
-        // Its numbers still name what they named, even after an error.
-        ensures remembered { KeepsNames (measure W.width_of self.old.widths) self.old self.new }
-        // A row whose number isn't above one that the surface had shows what it did then.
-        ensures numbered { NumbersRows self.old self.new }
+        // Viewers, numbers and rows hold, even after an error.
+        ensures preserves { Preserves (measure W.width_of) self.old self.new }
     {
         let copies = self.diff_region(dest_x, dest_y, width, height, self, src_x, src_y)?;
         self.add_changes(copies)
@@ -123,12 +114,8 @@ impl<W: Widths> Surface<W> {
             let r = copied_region (screen_of self.old) src_x src_y width height dest_x dest_y in
             HasCopied self.old r (screen_of self.new)) }
         ensures no_scroll { result ≡ Err ScrollRegion → ⊥ }
-        // Each viewer that follows the surface still follows it, even after an error.
-        ensures followed { KeepsViewers (measure W.width_of) self.old self.new }
-        // Its numbers still name what they named, even after an error.
-        ensures remembered { KeepsNames (measure W.width_of self.old.widths) self.old self.new }
-        // A row whose number isn't above one that the surface had shows what it did then.
-        ensures numbered { NumbersRows self.old self.new }
+        // Viewers, numbers and rows hold, even after an error.
+        ensures preserves { Preserves (measure W.width_of) self.old self.new }
     {
         let cursor = (self.x, self.y);
         let printed = self.diff_region(dest_x, dest_y, width, height, self, src_x, src_y)?;

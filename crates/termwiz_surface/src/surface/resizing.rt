@@ -1,7 +1,7 @@
 //! Resizing surfaces.
 ghost use Rattle.std.specs.Prelude.{◌≡◌, ◌+◌, ◌<◌, ◌≤◌, ◌^◌, OnErr, OnOk, nat_le, ℕ};
-ghost use Rattle.termwiz_surface.specs.{HasResized, IsSurfaceSize, KeepsNames, KeepsViewers};
-ghost use Rattle.termwiz_surface.specs.{NumbersRows, Resizes, measure, next_number};
+ghost use Rattle.termwiz_surface.specs.{HasResized, IsSurfaceSize, Preserves};
+ghost use Rattle.termwiz_surface.specs.{Resizes, measure, next_number};
 ghost use Rattle.termwiz_surface.specs.{resize_touches};
 
 use super::{Surface, SurfaceError};
@@ -23,12 +23,8 @@ impl<W: Widths> Surface<W> {
     pub fn resize(&mut self, width: usize, height: usize) -> Result<(), SurfaceError>
         requires size { IsSurfaceSize width height }
         ensures resizes { Resizes self.old width height result self.new }
-        // Each viewer that follows the surface still follows it, even after an error.
-        ensures followed { KeepsViewers (measure W.width_of) self.old self.new }
-        // Its numbers still name what they named, even after an error.
-        ensures remembered { KeepsNames (measure W.width_of self.old.widths) self.old self.new }
-        // A row whose number isn't above one that the surface had shows what it did then.
-        ensures numbered { NumbersRows self.old self.new }
+        // Viewers, numbers and rows hold, even after an error.
+        ensures preserves { Preserves (measure W.width_of) self.old self.new }
     {
         if !self.log.has_numbers(1) {
             return Err(SurfaceError::Numbers);

@@ -1,8 +1,8 @@
 //! Changes whose lines that scroll off the top are kept.
 ghost use Rattle.std.specs.Prelude.{◌≡◌, ◌≢◌, ◌+◌, ◌-◌, ◌<◌, ◌≤◌, ◌^◌, ◌∷◌, [], OnErr, ℕ, length};
 ghost use Rattle.std.specs.Prelude.{replicate, slice_set, vec_len, ◌==◌};
-ghost use Rattle.termwiz_surface.specs.{AddsUnlogged, Becomes, IfOk, IsOk, KeepsNames};
-ghost use Rattle.termwiz_surface.specs.{KeepsViewers, Adds, AddsScrolledOff, BeginsRows};
+ghost use Rattle.termwiz_surface.specs.{AddsUnlogged, Becomes, IfOk, IsOk, Preserves};
+ghost use Rattle.termwiz_surface.specs.{Adds, AddsScrolledOff, BeginsRows};
 ghost use Rattle.termwiz_surface.specs.{LeavesRows, Makes, MakesUnlogged, NumbersRows, OnOk};
 ghost use Rattle.termwiz_surface.specs.{PrintsFirst, SameFrame, ScrollsOff, blank, change_value};
 ghost use Rattle.termwiz_surface.specs.{first_leaves, graphemes, kept_of, knows, left_by};
@@ -363,12 +363,8 @@ impl<W: Widths> Surface<W> {
         // Whoever asks by another number than the surface's gets a repaint.
         ensures repaints { OnOk result ((n : ℕ) →
             n ≢ next_number self.new.log → knows self.new n ≡ false) }
-        // Each viewer that follows the surface still follows it, even after an error.
-        ensures followed { KeepsViewers (measure W.width_of) self.old self.new }
-        // Its numbers still name what they named, even after an error.
-        ensures remembered { KeepsNames (measure W.width_of self.old.widths) self.old self.new }
-        // A row whose number isn't above one that the surface had shows what it did then.
-        ensures numbered { NumbersRows self.old self.new }
+        // Viewers, numbers and rows hold, even after an error.
+        ensures preserves { Preserves (measure W.width_of) self.old self.new }
     {
         self.refuse_lent(changes)?;
         let number = number_for(self.log.next_number(), changes.len());
@@ -462,12 +458,8 @@ impl<W: Widths> Surface<W> {
             result scrollback.old.lines.items scrollback.new.lines.items }
         ensures spare { spare_lines scrollback.new ≤ spare_lines scrollback.old }
         ensures empty { vec_len changes ≡ 0 → IsOk result }
-        // Each viewer that follows the surface still follows it, even after an error.
-        ensures followed { KeepsViewers (measure W.width_of) self.old self.new }
-        // Its numbers still name what they named, even after an error.
-        ensures remembered { KeepsNames (measure W.width_of self.old.widths) self.old self.new }
-        // A row whose number isn't above one that the surface had shows what it did then.
-        ensures numbered { NumbersRows self.old self.new }
+        // Viewers, numbers and rows hold, even after an error.
+        ensures preserves { Preserves (measure W.width_of) self.old self.new }
     {
         self.refuse(changes.as_slice())?;
         let number = number_for(self.log.next_number(), changes.len());

@@ -1,6 +1,6 @@
 //! Changes that a surface makes without logging them.
 ghost use Rattle.std.specs.Prelude.{◌≡◌, ◌≢◌, ◌+◌, ◌-◌, ◌<◌, ◌^◌, [], OnErr, ℕ, length};
-ghost use Rattle.termwiz_surface.specs.{AddsUnlogged, KeepsNames, KeepsViewers, MakesUnlogged};
+ghost use Rattle.termwiz_surface.specs.{AddsUnlogged, Preserves, MakesUnlogged};
 ghost use Rattle.termwiz_surface.specs.{Becomes, IsOk, OnOk, Refuses, SameFrame, false, kept_of};
 ghost use Rattle.termwiz_surface.specs.{knows, lent_value, map, measure, next_number, region_fits};
 ghost use Rattle.termwiz_surface.specs.{regions_fit, replay, replay_kept, screen_of, step};
@@ -128,12 +128,8 @@ impl<W: Widths> Surface<W> {
         // Whoever asks by another number than the surface's gets a repaint.
         ensures repaints { OnOk result ((n : ℕ) →
             n ≢ next_number self.new.log → knows self.new n ≡ false) }
-        // Each viewer that follows the surface still follows it, even after an error.
-        ensures followed { KeepsViewers (measure W.width_of) self.old self.new }
-        // Its numbers still name what they named, even after an error.
-        ensures remembered { KeepsNames (measure W.width_of self.old.widths) self.old self.new }
-        // A row whose number isn't above one that the surface had shows what it did then.
-        ensures numbered { NumbersRows self.old self.new }
+        // Viewers, numbers and rows hold, even after an error.
+        ensures preserves { Preserves (measure W.width_of) self.old self.new }
     {
         self.refuse_lent(changes)?;
         let number = number_for(self.log.next_number(), changes.len());

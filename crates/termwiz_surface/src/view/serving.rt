@@ -1,7 +1,7 @@
 //! What an event does to a surface and its viewer, and its outcome.
 ghost use Rattle.std.specs.Prelude.{◌≡◌, IfOk, OnOk, map};
 ghost use Rattle.termwiz_surface.specs.{Acts, Allows, Follows, IfSome, IsInRange, IsNone};
-ghost use Rattle.termwiz_surface.specs.{KeepsNames, KeepsViewers, Reports, Views, change_value};
+ghost use Rattle.termwiz_surface.specs.{Preserves, Reports, Views, change_value};
 ghost use Rattle.termwiz_surface.specs.{SurfaceValue, cow_slice_items, measure, with_empty_log};
 
 use super::{Event, Outcome, Viewer};
@@ -53,9 +53,7 @@ pub(super) fn act<W: Widths>(
     ensures step { IfSome result (λ outcome.
         Acts (measure W.width_of) surface.old event outcome surface.new) }
     ensures widths { surface.new.widths ≡ surface.old.widths }
-    ensures followed { KeepsViewers (measure W.width_of) surface.old surface.new }
-    ensures remembered { KeepsNames (measure W.width_of surface.old.widths)
-        surface.old surface.new }
+    ensures preserves { Preserves (measure W.width_of) surface.old surface.new }
     ensures none { IsNone result → (event ≡ Event.Follow) × (surface.new ≡ surface.old) }
 {
     match event {

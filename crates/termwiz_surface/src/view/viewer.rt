@@ -1,12 +1,12 @@
 //! Viewers: surfaces that follow another one, or accept its answers.
 ghost use Rattle.std.specs.Prelude.{Err, IfErr, IfOk, Ok, OnErr, OnOk, [], ◌+◌, ◌-◌, ◌<◌, ◌^◌, ◌≡◌};
-ghost use Rattle.termwiz_surface.specs.{IsSurfaceSize, KeepsShowing, KeepsViewers, ShowsCarried};
+ghost use Rattle.termwiz_surface.specs.{IsSurfaceSize, KeepsShowing, Preserves, ShowsCarried};
 ghost use Rattle.termwiz_surface.specs.{Adds, HasCaughtUp, HasFullSize, blank_viewer};
 ghost use Rattle.termwiz_surface.specs.{blank_viewer_from, full_screens};
-ghost use Rattle.termwiz_surface.specs.{FollowsTo, HasDropped, KeepsNames, StaysNamed, next_number};
+ghost use Rattle.termwiz_surface.specs.{FollowsTo, HasDropped, StaysNamed, next_number};
 ghost use Rattle.termwiz_surface.specs.{Accepts, Declines, Fetches, forgetful, stream_of, with_log};
 ghost use Rattle.termwiz_surface.specs.{Fits, Follows, MayTake, Resizes, flushed, full_of, measure};
-ghost use Rattle.termwiz_surface.specs.{Makes, NumbersRows, SurfaceValue, Takes, length, nat_lt};
+ghost use Rattle.termwiz_surface.specs.{Makes, SurfaceValue, Takes, length, nat_lt};
 ghost use Rattle.termwiz_surface.specs.{screens, true};
 
 use crate::surface::{Answer, Surface, SurfaceError};
@@ -132,10 +132,7 @@ impl<W: Widths> Viewer<W> {
         ensures sized { OnOk result (
             HasFullSize source.now.width source.now.height (full_of self.new.surface)) }
         ensures number { OnOk result (next_number self.new.surface.log < 2 ^ 64) }
-        ensures followed { KeepsViewers (measure W.width_of) self.old.surface self.new.surface }
-        ensures remembered { KeepsNames (measure W.width_of self.old.surface.widths)
-            self.old.surface self.new.surface }
-        ensures numbered { NumbersRows self.old.surface self.new.surface }
+        ensures preserves { Preserves (measure W.width_of) self.old.surface self.new.surface }
     {
         let (width, height) = source.dimensions();
         let (own_width, own_height) = self.surface.dimensions();
@@ -156,10 +153,7 @@ impl<W: Widths> Viewer<W> {
             source.now self.old result self.new }
         ensures sized { OnOk result (
             HasFullSize source.now.width source.now.height (full_of self.new.surface)) }
-        ensures followed { KeepsViewers (measure W.width_of) self.old.surface self.new.surface }
-        ensures remembered { KeepsNames (measure W.width_of self.old.surface.widths)
-            self.old.surface self.new.surface }
-        ensures numbered { NumbersRows self.old.surface self.new.surface }
+        ensures preserves { Preserves (measure W.width_of) self.old.surface self.new.surface }
     {
         self.fit(source)?;
         let (number, changes) = source.get_changes(self.last)?;
@@ -178,10 +172,7 @@ impl<W: Widths> Viewer<W> {
             FollowsTo (measure W.width_of) source.now self.old (Err error) self.new) }
         ensures sized { OnOk result (
             HasFullSize source.now.width source.now.height (full_of self.new.surface)) }
-        ensures followed { KeepsViewers (measure W.width_of) self.old.surface self.new.surface }
-        ensures remembered { KeepsNames (measure W.width_of self.old.surface.widths)
-            self.old.surface self.new.surface }
-        ensures numbered { NumbersRows self.old.surface self.new.surface }
+        ensures preserves { Preserves (measure W.width_of) self.old.surface self.new.surface }
     {
         match self.ask(source) {
             Ok(answer) => Ok(answer),
@@ -201,10 +192,7 @@ impl<W: Widths> Viewer<W> {
     ) -> Result<SequenceNo, SurfaceError>
         ensures accepts { Accepts (measure W.width_of self.old.surface.widths)
             self.old number (stream_of changes.entry) result self.new }
-        ensures followed { KeepsViewers (measure W.width_of) self.old.surface self.new.surface }
-        ensures remembered { KeepsNames (measure W.width_of self.old.surface.widths)
-            self.old.surface self.new.surface }
-        ensures numbered { NumbersRows self.old.surface self.new.surface }
+        ensures preserves { Preserves (measure W.width_of) self.old.surface self.new.surface }
     {
         self.last = SEQ_ZERO;
         self.add(changes)?;
@@ -219,10 +207,7 @@ impl<W: Widths> Viewer<W> {
             (next_number self.old.surface.log - 1 + length (stream_of changes.entry))
             result self.new.surface }
         ensures last { self.new.last ≡ self.old.last }
-        ensures followed { KeepsViewers (measure W.width_of) self.old.surface self.new.surface }
-        ensures remembered { KeepsNames (measure W.width_of self.old.surface.widths)
-            self.old.surface self.new.surface }
-        ensures numbered { NumbersRows self.old.surface self.new.surface }
+        ensures preserves { Preserves (measure W.width_of) self.old.surface self.new.surface }
     {
         match changes {
             CowSlice::Borrowed(lent) => self.surface.add_lent_changes(lent),
@@ -268,10 +253,7 @@ impl<W: Widths> Viewer<W> {
             self.old.surface answer.now.changes self.new.surface) }
         ensures err { OnErr result (
             HasDropped (measure W.width_of self.old.surface.widths) self.old self.new) }
-        ensures followed { KeepsViewers (measure W.width_of) self.old.surface self.new.surface }
-        ensures remembered { KeepsNames (measure W.width_of self.old.surface.widths)
-            self.old.surface self.new.surface }
-        ensures numbered { NumbersRows self.old.surface self.new.surface }
+        ensures preserves { Preserves (measure W.width_of) self.old.surface self.new.surface }
     {
         self.last = SEQ_ZERO;
         if self.surface.add_lent_changes(answer.changes()).is_err() {
@@ -291,10 +273,7 @@ impl<W: Widths> Viewer<W> {
             self.old.surface answer.entry.changes self.new.surface) }
         ensures err { OnErr result (
             HasDropped (measure W.width_of self.old.surface.widths) self.old self.new) }
-        ensures followed { KeepsViewers (measure W.width_of) self.old.surface self.new.surface }
-        ensures remembered { KeepsNames (measure W.width_of self.old.surface.widths)
-            self.old.surface self.new.surface }
-        ensures numbered { NumbersRows self.old.surface self.new.surface }
+        ensures preserves { Preserves (measure W.width_of) self.old.surface self.new.surface }
     {
         let number = answer.number();
         self.last = SEQ_ZERO;
@@ -327,13 +306,8 @@ impl<W: Widths> Viewer<W> {
         ensures names { StaysNamed screens (measure W.width_of) self.old answer.now self.new }
         ensures names_fully { StaysNamed full_screens (measure W.width_of)
             self.old answer.now self.new }
-        // Each viewer that follows the viewer's own surface still follows it, even after an error.
-        ensures followed { KeepsViewers (measure W.width_of) self.old.surface self.new.surface }
-        // The numbers of its own surface still name what they named, even after an error.
-        ensures remembered { KeepsNames (measure W.width_of self.old.surface.widths)
-            self.old.surface self.new.surface }
-        // A row whose number isn't above one that its own surface had shows what it did then.
-        ensures numbered { NumbersRows self.old.surface self.new.surface }
+        // Viewers, numbers and rows hold, even after an error.
+        ensures preserves { Preserves (measure W.width_of) self.old.surface self.new.surface }
     {
         self.decline(answer)?;
         if !self.has_numbers(answer.changes().len()) {
@@ -359,13 +333,8 @@ impl<W: Widths> Viewer<W> {
         ensures names { StaysNamed screens (measure W.width_of) self.old answer.entry self.new }
         ensures names_fully { StaysNamed full_screens (measure W.width_of)
             self.old answer.entry self.new }
-        // Each viewer that follows the viewer's own surface still follows it, even after an error.
-        ensures followed { KeepsViewers (measure W.width_of) self.old.surface self.new.surface }
-        // The numbers of its own surface still name what they named, even after an error.
-        ensures remembered { KeepsNames (measure W.width_of self.old.surface.widths)
-            self.old.surface self.new.surface }
-        // A row whose number isn't above one that its own surface had shows what it did then.
-        ensures numbered { NumbersRows self.old.surface self.new.surface }
+        // Viewers, numbers and rows hold, even after an error.
+        ensures preserves { Preserves (measure W.width_of) self.old.surface self.new.surface }
     {
         self.decline(&answer)?;
         if !self.has_numbers(answer.changes().len()) {
@@ -387,13 +356,8 @@ impl<W: Widths> Viewer<W> {
         // A viewer that shows what its number names still does.
         ensures names { KeepsShowing screens self.old self.new }
         ensures names_fully { KeepsShowing full_screens self.old self.new }
-        // Each viewer that follows the viewer's own surface still follows it, even after an error.
-        ensures followed { KeepsViewers (measure W.width_of) self.old.surface self.new.surface }
-        // The numbers of its own surface still name what they named, even after an error.
-        ensures remembered { KeepsNames (measure W.width_of self.old.surface.widths)
-            self.old.surface self.new.surface }
-        // A row whose number isn't above one that its own surface had shows what it did then.
-        ensures numbered { NumbersRows self.old.surface self.new.surface }
+        // Viewers, numbers and rows hold, even after an error.
+        ensures preserves { Preserves (measure W.width_of) self.old.surface self.new.surface }
     {
         self.surface.resize(width, height)?;
         // What it shows now has no number.
@@ -419,13 +383,8 @@ impl<W: Widths> Viewer<W> {
         // It still follows each surface that it followed.
         ensures follows { (s : SurfaceValue W) →
             Follows (measure W.width_of) self.old s → Follows (measure W.width_of) self.new s }
-        // Each viewer that follows the viewer's own surface still follows it.
-        ensures followed { KeepsViewers (measure W.width_of) self.old.surface self.new.surface }
-        // The numbers of its own surface still name what they named.
-        ensures remembered { KeepsNames (measure W.width_of self.old.surface.widths)
-            self.old.surface self.new.surface }
-        // A row whose number isn't above one that its own surface had shows what it did then.
-        ensures numbered { NumbersRows self.old.surface self.new.surface }
+        // Viewers, numbers and rows hold.
+        ensures preserves { Preserves (measure W.width_of) self.old.surface self.new.surface }
     {
         self.surface.flush_changes_older_than(seq);
     }
@@ -451,13 +410,8 @@ impl<W: Widths> Viewer<W> {
         ensures follows { Follows (measure W.width_of) self.old source.now →
             Follows (measure W.width_of) self.new source.now }
         ensures failed { OnErr result (self.new.last ≡ 0) }
-        // Each viewer that follows the viewer's own surface still follows it, even after an error.
-        ensures followed { KeepsViewers (measure W.width_of) self.old.surface self.new.surface }
-        // The numbers of its own surface still name what they named, even after an error.
-        ensures remembered { KeepsNames (measure W.width_of self.old.surface.widths)
-            self.old.surface self.new.surface }
-        // A row whose number isn't above one that its own surface had shows what it did then.
-        ensures numbered { NumbersRows self.old.surface self.new.surface }
+        // Viewers, numbers and rows hold, even after an error.
+        ensures preserves { Preserves (measure W.width_of) self.old.surface self.new.surface }
     {
         let (number, changes) = self.fetch(source)?;
         self.make(number, changes)

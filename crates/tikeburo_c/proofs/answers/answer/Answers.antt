@@ -17,7 +17,7 @@ returns-then-size-count c =
       given = refl;
       gives = is_short _ c.args.room.now c.respond_to.new.room _ c.if-size-count.true c.in_ok-size.ensures.written;
       trims = c.in_ok-size.ensures.trims;
-      goes_on = search rules;
+      preserves = search rules;
     })
 
 pub returns : goal.returns
@@ -28,5 +28,5 @@ returns c =
       given = refl;
       gives = fits _ c.args.room.now c.respond_to.new.room _ c.if-size-count.false c.in_ok-size.ensures.written;
       trims = c.in_ok-size.ensures.trims;
-      goes_on = search rules;
+      preserves = search rules;
     })

@@ -11,5 +11,5 @@ returns-in_err-add_changes c =
       Err c.in_err-add_changes.field-0.0,
       search rules,
       e.adds,
-      record { number = e.number; serves = e.serves; followed = e.followed; numbered = e.numbered },
+      e.preserves,
     )

@@ -10,5 +10,5 @@ returns-in_err-add_unlogged c =
       Err c.in_err-add_unlogged.field-0.0,
       search rules,
       e.adds,
-      record { number = e.number; serves = e.serves; followed = e.followed; numbered = e.numbered },
+      e.preserves,
     )

@@ -11,7 +11,7 @@ returns-in_err-copy_region c =
         copied = e.copies;
         region = e.region;
         no_scroll = e.no_scroll;
-        goes_on = record { number = e.number; serves = e.serves; followed = e.followed; numbered = e.numbered };
+        preserves = e.preserves;
       },
     )
 
@@ -24,6 +24,6 @@ returns c =
         copied = e.copies;
         region = e.region;
         no_scroll = e.no_scroll;
-        goes_on = record { number = e.number; serves = e.serves; followed = e.followed; numbered = e.numbered };
+        preserves = e.preserves;
       },
     )

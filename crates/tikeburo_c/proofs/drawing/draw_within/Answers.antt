@@ -12,7 +12,7 @@ returns-in_err-draw_region c =
         restores = e.restores;
         region = e.region;
         no_scroll = e.no_scroll;
-        goes_on = record { number = e.number; serves = e.serves; followed = e.followed; numbered = e.numbered };
+        preserves = e.preserves;
       },
     )
 
@@ -26,6 +26,6 @@ returns c =
         restores = e.restores;
         region = e.region;
         no_scroll = e.no_scroll;
-        goes_on = record { number = e.number; serves = e.serves; followed = e.followed; numbered = e.numbered };
+        preserves = e.preserves;
       },
     )

@@ -8,7 +8,7 @@ use Rattle.uses.proofs.remote.show_heading.Goals as goal
 
 pub returns-clause-shown : goal.returns-clause-shown
 returns-clause-shown g c =
-    c.in_ok-follow.ensures.fully_caught_up (c.in_ok-add_changes.ensures.followed c.args.remote.now c.requires.follows) (c.in_ok-add_changes.ensures.adds.3.full ∙ c.requires.full)
+    c.in_ok-follow.ensures.fully_caught_up (c.in_ok-add_changes.ensures.preserves.viewers c.args.remote.now c.requires.follows) (c.in_ok-add_changes.ensures.adds.3.full ∙ c.requires.full)
 
 pub returns-clause-title : goal.returns-clause-title
 returns-clause-title g c =
@@ -31,7 +31,7 @@ returns-clause-wide g c =
     (row_is_wide width old session c.args.heading.now f c.dimensions-size.ensures.sound screen kept)
 
 pub returns-clause-follows : goal.returns-clause-follows
-returns-clause-follows g c = c.follow.ensures.follows (c.in_ok-add_changes.ensures.followed c.args.remote.now c.requires.follows)
+returns-clause-follows g c = c.follow.ensures.follows (c.in_ok-add_changes.ensures.preserves.viewers c.args.remote.now c.requires.follows)
 
 pub returns-clause-either : goal.returns-clause-either
 returns-clause-either g c =

@@ -57,4 +57,4 @@ pub returns-clause-numbered : goal.returns-clause-numbered
 returns-clause-numbered g c = λ k d lt. c.loop-each.invariant.numbered k d (omega arith) (omega (arith, lt, c.loop-each-test.false))
 
 pub returns-clause-follows : goal.returns-clause-follows
-returns-clause-follows g c = λ k d h. c.flush_changes_older_than.ensures.followed _ (c.loop-each.invariant.follows k d h)
+returns-clause-follows g c = λ k d h. c.flush_changes_older_than.ensures.preserves.viewers _ (c.loop-each.invariant.follows k d h)

@@ -13,7 +13,7 @@ returns-clause-shows g c =
     let f = measure g.W.Widths.width_of in
     let s = c.response.new.source in
     let client = c.args.client.now in
-    let served = c.in_ok-bytes.ensures.others client c.requires.serves in
+    let served = c.in_ok-bytes.ensures.preserves.clients client c.requires.serves in
     let given = answers f s (ask_of client) c.ask.result c.in_ok-bytes.bytes.items c.deref.result.now c.ask.ensures.value c.deref.ensures.value c.in_ok-bytes.ensures.response in
     (c.in_default.ensures.shows s served c.requires.ready given).0.picture
 
@@ -22,7 +22,7 @@ returns-clause-ready g c =
     let f = measure g.W.Widths.width_of in
     let s = c.response.new.source in
     let client = c.args.client.now in
-    let served = c.in_ok-bytes.ensures.others client c.requires.serves in
+    let served = c.in_ok-bytes.ensures.preserves.clients client c.requires.serves in
     let given = answers f s (ask_of client) c.ask.result c.in_ok-bytes.bytes.items c.deref.result.now c.ask.ensures.value c.deref.ensures.value c.in_ok-bytes.ensures.response in
     (c.in_default.ensures.shows s served c.requires.ready given).1
 
@@ -31,7 +31,7 @@ returns-clause-serves g c =
     let f = measure g.W.Widths.width_of in
     let s = c.response.new.source in
     let client = c.args.client.now in
-    let served = c.in_ok-bytes.ensures.others client c.requires.serves in
+    let served = c.in_ok-bytes.ensures.preserves.clients client c.requires.serves in
     let given = answers f s (ask_of client) c.ask.result c.in_ok-bytes.bytes.items c.deref.result.now c.ask.ensures.value c.deref.ensures.value c.in_ok-bytes.ensures.response in
     c.in_default.ensures.serves s served c.requires.ready given
 
@@ -40,7 +40,7 @@ returns-in-Err-clause-serves g c =
     let f = measure g.W.Widths.width_of in
     let s = c.response.new.source in
     let client = c.args.client.now in
-    let served = c.in_ok-bytes.ensures.others client c.requires.serves in
+    let served = c.in_ok-bytes.ensures.preserves.clients client c.requires.serves in
     let given = answers f s (ask_of client) c.ask.result c.in_ok-bytes.bytes.items c.deref.result.now c.ask.ensures.value c.deref.ensures.value c.in_ok-bytes.ensures.response in
     c.reset.ensures.serves s (c.in-Err.ensures.serves s served c.requires.ready given)
 

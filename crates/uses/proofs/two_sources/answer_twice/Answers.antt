@@ -36,13 +36,13 @@ returns-in_err-late-clause-fails g c =
     (refl, inr (c.response-2.ensures.same ∙ made))
 
 pub returns-in_err-make-clause-serves : goal.returns-in_err-make-clause-serves
-returns-in_err-make-clause-serves g c = λ client serves. c.make.ensures.others client (c.in_ok-early.ensures.others client serves)
+returns-in_err-make-clause-serves g c = λ client serves. c.make.ensures.preserves.clients client (c.in_ok-early.ensures.preserves.clients client serves)
 
 pub returns-in_err-late-clause-serves : goal.returns-in_err-late-clause-serves
-returns-in_err-late-clause-serves g c = λ client serves. c.response-2.ensures.others client (c.in_ok-make.ensures.others client (c.in_ok-early.ensures.others client serves))
+returns-in_err-late-clause-serves g c = λ client serves. c.response-2.ensures.preserves.clients client (c.in_ok-make.ensures.preserves.clients client (c.in_ok-early.ensures.preserves.clients client serves))
 
 pub returns-clause-serves : goal.returns-clause-serves
-returns-clause-serves g c = λ client serves. c.in_ok-late.ensures.others client (c.in_ok-make.ensures.others client (c.in_ok-early.ensures.others client serves))
+returns-clause-serves g c = λ client serves. c.in_ok-late.ensures.preserves.clients client (c.in_ok-make.ensures.preserves.clients client (c.in_ok-early.ensures.preserves.clients client serves))
 
 pub returns-clause-answers : goal.returns-clause-answers
 returns-clause-answers g c =
@@ -58,14 +58,14 @@ returns-clause-answers g c =
       first = c.in_ok-early.ensures.response;
       asked = _;
       second = c.in_ok-late.ensures.response;
-      number = c.in_ok-early.ensures.number;
-      same = c.in_ok-late.ensures.number ∙ c.in_ok-make.ensures.number ∙ c.in_ok-early.ensures.number;
+      number = c.in_ok-early.ensures.preserves.number;
+      same = c.in_ok-late.ensures.preserves.number ∙ c.in_ok-make.ensures.preserves.number ∙ c.in_ok-early.ensures.preserves.number;
       widths = widths;
       later_widths = c.in_ok-late.ensures.widths ∙ changed_widths;
-      names = c.in_ok-early.ensures.remembered;
+      names = c.in_ok-early.ensures.preserves.surface.names;
       changed = changed.surface;
       changed_widths = changed_widths;
-      later_names = subst (λ w. KeepsNames (f w) then.surface changed.surface) widths c.in_ok-make.ensures.remembered;
-      last_names = subst (λ w. KeepsNames (f w) changed.surface new.surface) changed_widths c.in_ok-late.ensures.remembered;
+      later_names = subst (λ w. KeepsNames (f w) then.surface changed.surface) widths c.in_ok-make.ensures.preserves.surface.names;
+      last_names = subst (λ w. KeepsNames (f w) changed.surface new.surface) changed_widths c.in_ok-late.ensures.preserves.surface.names;
       made = c.in_ok-late.ensures.same ∙ c.in_ok-make.ensures.shows ∙ ap (λ (s : SourceValue _). full_after f s.surface (change_value c.args.change ∷ [])) c.in_ok-early.ensures.trims;
     }

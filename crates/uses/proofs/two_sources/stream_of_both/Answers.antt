@@ -16,9 +16,9 @@ returns-clause-stream g c = record {
   other = c.in_ok-other.other.items;
   answers = c.in_ok-early.ensures.answers;
   response = c.in_ok-other.ensures.response;
-  number = c.in_ok-other.ensures.number;
+  number = c.in_ok-other.ensures.preserves.number;
   widths = c.in_ok-other.ensures.widths;
-  names = c.in_ok-other.ensures.remembered;
+  names = c.in_ok-other.ensures.preserves.surface.names;
   is = c.in_ok-stream.ensures
       ∙ (λ i. c.deref.ensures.value i ++ (c.deref-2.ensures.value i ++ (c.deref.ensures.value i ++ (c.deref.ensures.value i ++ (c.deref-3.ensures.value i ++ [])))));
 }

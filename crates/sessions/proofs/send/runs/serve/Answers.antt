@@ -21,7 +21,7 @@ returns-in-Flush-clause-steps c = λ v named.
     let flush = c.flush_changes_older_than in
     let is = flush.ensures.flushes in
     let happens : Happens c.args.source.now c.args.event Done flush.new.self = rw c.in-Flush.is (record { acts = ap (λ (s : Sender). s.surface) is; number = ap (λ (s : Sender). s.number) is }) in
-    made_steps c.args.source.now flush.new.self c.args.last.now v c.args.event Done happens flush.ensures.serves named
+    made_steps c.args.source.now flush.new.self c.args.last.now v c.args.event Done happens flush.ensures.preserves.clients named
 
 pub returns-in-Flush-clause-does : goal.returns-in-Flush-clause-does
 returns-in-Flush-clause-does c =

@@ -1,9 +1,9 @@
-use Rattle.std.proofs.Common.{◌+◌, ◌-◌, inl, length, map, refl, ◌∙◌}
+use Rattle.std.proofs.Common.{◌+◌, ◌-◌, inl, length, map, ◌∙◌}
 use Rattle.termwiz_cell.specs.Measure.{measure}
 use Rattle.termwiz_screen.specs.Log.{next_number}
 use Rattle.termwiz_surface.specs.Unlogged.{lent_value}
 use Rattle.termwiz_share.proofs.Unlogged.{full-unlogged}
-use Rattle.termwiz_share.proofs.Served.{keeps_clients}
+use Rattle.termwiz_share.proofs.Served.{serves_on}
 use Rattle.termwiz_share.proofs.source.Source.add_unlogged.Goals as goal
 
 pub invariant_of-self : goal.invariant_of-self
@@ -14,7 +14,6 @@ invariant_of-self g c =
       (inl c.clear.ensures.delta, inl c.clear.ensures.repaint),
     )
 
-pub returns-clause-serves : goal.returns-clause-serves
-returns-clause-serves g c =
-    rw (← c.self.view_is)
-    (keeps_clients (measure g.W.Widths.width_of) (record { surface = c.self.inside.surface; number = c.self.inside.number }) (record { surface = c.add_unlogged.new.self; number = c.self.inside.number }) refl c.add_unlogged.ensures.followed c.add_unlogged.ensures.remembered)
+pub returns-clause-preserves : goal.returns-clause-preserves
+returns-clause-preserves g c =
+    rw (← c.self.view_is) (serves_on (measure g.W.Widths.width_of) c.self.inside.number c.self.inside.surface c.add_unlogged.new.self c.add_unlogged.ensures.preserves)

@@ -1,15 +1,11 @@
 use Rattle.std.proofs.Common.{◌≡◌, ap, refl, sym, ◌∙◌, List, ℕ, ◌++◌, subst}
 use Rattle.termwiz_cell.specs.Measure.{measure}
-use Rattle.termwiz_surface.specs.Following.{Follows}
-use Rattle.termwiz_surface.specs.History.{KeepsNames}
-use Rattle.termwiz_surface.specs.RowNumbers.{NumbersRows}
 use Rattle.termwiz_surface.specs.Surface.{SurfaceValue}
-use Rattle.termwiz_surface.proofs.RowNumbers.{numbers-same}
-use Rattle.termwiz_share.specs.Serving.{KeepsClients}
-use Rattle.termwiz_share.specs.Source.{SourceValue, number_asked}
+use Rattle.termwiz_surface.proofs.Preserving.{preserves-same}
+use Rattle.termwiz_share.specs.Serving.{PreservesServing}
+use Rattle.termwiz_share.specs.Source.{SourceValue, number_asked, source_of}
 use Rattle.termwiz_share.proofs.Answering.{alone_of, keeps_responses, named_by, response_is, response_of, stay}
-use Rattle.termwiz_share.proofs.Remembered.{names-same}
-use Rattle.termwiz_share.proofs.Served.{keeps_clients}
+use Rattle.termwiz_share.proofs.Served.{serves_on}
 use Rattle.termwiz_share.proofs.source.Source.respond.Goals as goal
 
 pub returns-in_err-is_delta-clause-begins : goal.returns-in_err-is_delta-clause-begins
@@ -18,12 +14,17 @@ returns-in_err-is_delta-clause-begins g c = stay c.from_residual.result c.args.o
 pub returns-in_err-extend_from_slice-clause-begins : goal.returns-in_err-extend_from_slice-clause-begins
 returns-in_err-extend_from_slice-clause-begins g c = stay c.from_residual-in_err-extend_from_slice.result c.args.out.now.items c.extend_from_slice.new.self.items c.in_err-extend_from_slice.ensures.items
 
-pub returns-in_err-extend_from_slice-clause-remembered : goal.returns-in_err-extend_from_slice-clause-remembered
-returns-in_err-extend_from_slice-clause-remembered g c =
-    subst (λ (v : SourceValue _). KeepsNames (measure g.W.Widths.width_of v.surface.widths) v.surface c.self.inside.surface) c.self.view_is (names-same (measure g.W.Widths.width_of c.self.inside.surface.widths) c.self.inside.surface)
+pub returns-in_err-is_delta-clause-preserves : goal.returns-in_err-is_delta-clause-preserves
+returns-in_err-is_delta-clause-preserves g c =
+    let s = c.self.inside.surface in
+    subst (λ (v : SourceValue _). PreservesServing (measure g.W.Widths.width_of) v (source_of c.self.inside.number s)) c.self.view_is
+    (serves_on (measure g.W.Widths.width_of) c.self.inside.number s s (preserves-same (measure g.W.Widths.width_of) s))
 
-pub returns-in_err-extend_from_slice-clause-numbered : goal.returns-in_err-extend_from_slice-clause-numbered
-returns-in_err-extend_from_slice-clause-numbered g c = subst (λ (v : SourceValue _). NumbersRows v.surface c.self.inside.surface) c.self.view_is (numbers-same c.self.inside.surface)
+pub returns-in_err-extend_from_slice-clause-preserves : goal.returns-in_err-extend_from_slice-clause-preserves
+returns-in_err-extend_from_slice-clause-preserves g c =
+    let s = c.self.inside.surface in
+    subst (λ (v : SourceValue _). PreservesServing (measure g.W.Widths.width_of) v (source_of c.self.inside.number s)) c.self.view_is
+    (serves_on (measure g.W.Widths.width_of) c.self.inside.number s s (preserves-same (measure g.W.Widths.width_of) s))
 
 pub invariant_of-self-2 : goal.invariant_of-self-2
 invariant_of-self-2 g c =
@@ -54,13 +55,8 @@ returns-clause-given g c =
 pub returns-clause-alone : goal.returns-clause-alone
 returns-clause-alone g c = λ empty. alone_of (measure g.W.Widths.width_of) _ c.args.ask _ _ (returns-clause-ok g c) empty
 
-pub returns-clause-serves : goal.returns-clause-serves
-returns-clause-serves g c =
-    let f = measure g.W.Widths.width_of in
-    let s : SourceValue _ = record { surface = c.self.inside.surface; number = c.self.inside.number } in
-    let t : SourceValue _ = record { surface = c.forget_unneeded.new.self; number = c.self.inside.number } in
-    subst (λ (v : SourceValue _). KeepsClients f v t) c.self.view_is (keeps_clients f s t refl c.forget_unneeded.ensures.followed c.forget_unneeded.ensures.remembered)
-
-pub returns-clause-followed : goal.returns-clause-followed
-returns-clause-followed g c v follows =
-    c.forget_unneeded.ensures.followed v (subst (λ (x : SourceValue _). Follows (measure g.W.Widths.width_of) v x.surface) (sym c.self.view_is) follows)
+pub returns-clause-preserves : goal.returns-clause-preserves
+returns-clause-preserves g c =
+    let s = c.self.inside.surface in
+    subst (λ (v : SourceValue _). PreservesServing (measure g.W.Widths.width_of) v (source_of c.self.inside.number c.forget_unneeded.new.self)) c.self.view_is
+    (serves_on (measure g.W.Widths.width_of) c.self.inside.number s c.forget_unneeded.new.self c.forget_unneeded.ensures.preserves)

@@ -1,12 +1,18 @@
 use Rattle.std.proofs.Common.{◌≡◌, ap, refl, sym, ◌∙◌, List, ℕ, [], subst}
 use Rattle.termwiz_cell.specs.Measure.{measure}
-use Rattle.termwiz_surface.specs.Following.{Follows}
+use Rattle.termwiz_surface.proofs.Preserving.{preserves-same}
 use Rattle.termwiz_surface.specs.Surface.{SurfaceValue}
-use Rattle.termwiz_share.specs.Serving.{KeepsClients}
-use Rattle.termwiz_share.specs.Source.{IsResponse, IsWritten, SourceValue, bytes_of, number_asked, response_bytes}
+use Rattle.termwiz_share.specs.Serving.{PreservesServing}
+use Rattle.termwiz_share.specs.Source.{IsResponse, IsWritten, SourceValue, bytes_of, number_asked, response_bytes, source_of}
 use Rattle.termwiz_share.proofs.Answering.{alone_of, keeps_responses, named_by, response_is, response_of}
-use Rattle.termwiz_share.proofs.Served.{keeps_clients}
+use Rattle.termwiz_share.proofs.Served.{serves_on}
 use Rattle.termwiz_share.proofs.source.Source.respond_to.Goals as goal
+
+pub returns-in_err-is_delta-clause-preserves : goal.returns-in_err-is_delta-clause-preserves
+returns-in_err-is_delta-clause-preserves g c =
+    let s = c.self.inside.surface in
+    subst (λ (v : SourceValue _). PreservesServing (measure g.W.Widths.width_of) v (source_of c.self.inside.number s)) c.self.view_is
+    (serves_on (measure g.W.Widths.width_of) c.self.inside.number s s (preserves-same (measure g.W.Widths.width_of) s))
 
 pub invariant_of-self-2 : goal.invariant_of-self-2
 invariant_of-self-2 g c =
@@ -38,13 +44,8 @@ returns-clause-written g c =
     let is : c.bytes.result.now ≡ response_bytes f t c.args.ask = response_is f s c.forget_unneeded.new.self c.args.ask c.number_asked-from.result p.given c.forget_unneeded.ensures.forgets c.forget_unneeded.ensures.answers (sym named) p.answers [] c.bytes.result.now (c.bytes.ensures ∙ p.put) in
     subst (λ (b : List ℕ). IsWritten b c.args.room.now c.write_front-len.result c.write_front-len.new.room) is c.write_front-len.ensures
 
-pub returns-clause-serves : goal.returns-clause-serves
-returns-clause-serves g c =
-    let f = measure g.W.Widths.width_of in
-    let s : SourceValue _ = record { surface = c.self.inside.surface; number = c.self.inside.number } in
-    let t : SourceValue _ = record { surface = c.forget_unneeded.new.self; number = c.self.inside.number } in
-    subst (λ (v : SourceValue _). KeepsClients f v t) c.self.view_is (keeps_clients f s t refl c.forget_unneeded.ensures.followed c.forget_unneeded.ensures.remembered)
-
-pub returns-clause-followed : goal.returns-clause-followed
-returns-clause-followed g c v follows =
-    c.forget_unneeded.ensures.followed v (subst (λ (x : SourceValue _). Follows (measure g.W.Widths.width_of) v x.surface) (sym c.self.view_is) follows)
+pub returns-clause-preserves : goal.returns-clause-preserves
+returns-clause-preserves g c =
+    let s = c.self.inside.surface in
+    subst (λ (v : SourceValue _). PreservesServing (measure g.W.Widths.width_of) v (source_of c.self.inside.number c.forget_unneeded.new.self)) c.self.view_is
+    (serves_on (measure g.W.Widths.width_of) c.self.inside.number s c.forget_unneeded.new.self c.forget_unneeded.ensures.preserves)

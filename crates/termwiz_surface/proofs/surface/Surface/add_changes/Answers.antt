@@ -2,26 +2,13 @@ use Rattle.std.proofs.Common.{map, sym, ◌∙◌, arith}
 use Rattle.std.proofs.lemmas.List.{length-map}
 use Rattle.termwiz_cell.specs.ChangeValue.{change_value}
 use Rattle.termwiz_cell.specs.Measure.{measure}
-use Rattle.termwiz_surface.proofs.Following.{Follows-made}
-use Rattle.termwiz_surface.proofs.RowNumbers.{numbers-made, numbers-unmade}
-use Rattle.termwiz_surface.proofs.Remembering.{keeps_made, keeps_unmade}
+use Rattle.termwiz_surface.proofs.Preserving.{preserves-made, preserves-unmade}
 use Rattle.termwiz_surface.proofs.surface.Surface.add_changes.Goals as goal
 
-pub returns-clause-followed : goal.returns-clause-followed
-returns-clause-followed g c v = Follows-made (measure g.W.Widths.width_of) v c.args.self.now c.make_all.new.self (map change_value c.args.changes.items) c.make_all.result (sym c.is_err.ensures.value ∙ c.if-is_err.false) c.make_all.ensures.ok
+pub returns-then-is_err-clause-preserves : goal.returns-then-is_err-clause-preserves
+returns-then-is_err-clause-preserves g c =
+    preserves-unmade (measure g.W.Widths.width_of) c.args.self.now c.make_all.new.self _ c.make_all.result (sym c.is_err.ensures.value ∙ c.if-is_err.true) c.make_all.ensures.err c.restart.ensures.frame c.restart.ensures.numbered
 
-pub returns-then-is_err-clause-remembered : goal.returns-then-is_err-clause-remembered
-returns-then-is_err-clause-remembered g c =
-    keeps_unmade _ c.args.self.now c.make_all.new.self _ c.make_all.result (sym c.is_err.ensures.value ∙ c.if-is_err.true) c.make_all.ensures.err c.restart.ensures.log
-
-pub returns-clause-remembered : goal.returns-clause-remembered
-returns-clause-remembered g c =
-    keeps_made _ c.args.self.now c.make_all.new.self (map change_value c.args.changes.items) c.make_all.result (sym c.is_err.ensures.value ∙ c.if-is_err.false) c.make_all.ensures.ok
-
-pub returns-then-is_err-clause-numbered : goal.returns-then-is_err-clause-numbered
-returns-then-is_err-clause-numbered g c =
-    numbers-unmade c.args.self.now c.make_all.new.self _ c.make_all.result (sym c.is_err.ensures.value ∙ c.if-is_err.true) c.make_all.ensures.err c.restart.ensures.log c.restart.ensures.numbered
-
-pub returns-clause-numbered : goal.returns-clause-numbered
-returns-clause-numbered g c =
-    numbers-made (measure g.W.Widths.width_of c.args.self.now.widths) c.args.self.now c.make_all.new.self (map change_value c.args.changes.items) c.make_all.result (sym c.is_err.ensures.value ∙ c.if-is_err.false) (λ no. c.make_all.ensures.none (omega (arith, no, length-map c.args.changes.items change_value, c.args.changes.ok.0))) c.make_all.ensures.ok
+pub returns-clause-preserves : goal.returns-clause-preserves
+returns-clause-preserves g c =
+    preserves-made (measure g.W.Widths.width_of) c.args.self.now c.make_all.new.self (map change_value c.args.changes.items) c.make_all.result (sym c.is_err.ensures.value ∙ c.if-is_err.false) (λ no. c.make_all.ensures.none (omega (arith, no, length-map c.args.changes.items change_value, c.args.changes.ok.0))) c.make_all.ensures.ok

@@ -4,9 +4,8 @@ use Rattle.termwiz_cell.specs.Measure.{measure}
 use Rattle.termwiz_screen.specs.Log.{next_number}
 use Rattle.termwiz_surface.specs.Surface.{SurfaceValue}
 use Rattle.termwiz_surface.specs.Unlogged.{MakesUnlogged, lent_value}
-use Rattle.termwiz_surface.proofs.Remembering.{keeps_unmade}
-use Rattle.termwiz_surface.proofs.RowNumbers.{numbers-unmade}
-use Rattle.termwiz_surface.proofs.Unlogged.{numbers-unlogged, on-ok, unlogged-log, unlogged-unknown, keeps-unlogged, Follows-unlogged}
+use Rattle.termwiz_surface.proofs.Unlogged.{on-ok, unlogged-log, unlogged-unknown}
+use Rattle.termwiz_surface.proofs.Preserving.{preserves-unlogged, preserves-unmade}
 use Rattle.termwiz_surface.proofs.surface.Surface.add_unlogged.Given as given
 use Rattle.termwiz_surface.proofs.surface.Surface.add_unlogged.Goals as goal
 
@@ -14,10 +13,6 @@ module _ (g : given.Over) (c : goal.Else-is_err g) where
   -- the changes were made
   made : MakesUnlogged (measure g.W.Widths.width_of c.args.self.now.widths) c.args.self.now (map lent_value c.args.changes.now) c.make_unlogged.new.self
   made = on-ok c.make_unlogged.result (sym c.is_err.ensures.value ∙ c.if-is_err.false) c.make_unlogged.ensures.ok
-
-pub returns-then-is_err-clause-remembered : goal.returns-then-is_err-clause-remembered
-returns-then-is_err-clause-remembered g c =
-    keeps_unmade _ c.args.self.now c.make_unlogged.new.self _ c.make_unlogged.result (sym c.is_err.ensures.value ∙ c.if-is_err.true) c.make_unlogged.ensures.err c.restart.ensures.log
 
 pub returns-clause-adds : goal.returns-clause-adds
 returns-clause-adds g c = (
@@ -34,15 +29,10 @@ returns-clause-unlogged g c =
 pub returns-clause-repaints : goal.returns-clause-repaints
 returns-clause-repaints g c = unlogged-unknown (measure g.W.Widths.width_of c.args.self.now.widths) c.args.self.now c.make_unlogged.new.self (map lent_value c.args.changes.now) (made g c)
 
-pub returns-clause-followed : goal.returns-clause-followed
-returns-clause-followed g c v = Follows-unlogged (measure g.W.Widths.width_of) v c.args.self.now c.make_unlogged.new.self (map lent_value c.args.changes.now) (made g c)
+pub returns-then-is_err-clause-preserves : goal.returns-then-is_err-clause-preserves
+returns-then-is_err-clause-preserves g c =
+    preserves-unmade (measure g.W.Widths.width_of) c.args.self.now c.make_unlogged.new.self _ c.make_unlogged.result (sym c.is_err.ensures.value ∙ c.if-is_err.true) c.make_unlogged.ensures.err c.restart.ensures.frame c.restart.ensures.numbered
 
-pub returns-clause-remembered : goal.returns-clause-remembered
-returns-clause-remembered g c = keeps-unlogged _ c.args.self.now c.make_unlogged.new.self (map lent_value c.args.changes.now) (made g c)
-
-pub returns-then-is_err-clause-numbered : goal.returns-then-is_err-clause-numbered
-returns-then-is_err-clause-numbered g c =
-    numbers-unmade c.args.self.now c.make_unlogged.new.self _ c.make_unlogged.result (sym c.is_err.ensures.value ∙ c.if-is_err.true) c.make_unlogged.ensures.err c.restart.ensures.log c.restart.ensures.numbered
-
-pub returns-clause-numbered : goal.returns-clause-numbered
-returns-clause-numbered g c = numbers-unlogged (measure g.W.Widths.width_of c.args.self.now.widths) c.args.self.now c.make_unlogged.new.self (map lent_value c.args.changes.now) (λ no. c.make_unlogged.ensures.none (omega (arith, no, length-map c.args.changes.now lent_value))) (made g c)
+pub returns-clause-preserves : goal.returns-clause-preserves
+returns-clause-preserves g c =
+    preserves-unlogged (measure g.W.Widths.width_of) c.args.self.now c.make_unlogged.new.self (map lent_value c.args.changes.now) (λ no. c.make_unlogged.ensures.none (omega (arith, no, length-map c.args.changes.now lent_value))) (made g c)

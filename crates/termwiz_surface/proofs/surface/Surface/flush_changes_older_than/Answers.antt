@@ -1,10 +1,10 @@
 use Rattle.std.proofs.Common.{ap, ◌∙◌, arith}
+use Rattle.termwiz_cell.specs.Measure.{measure}
 use Rattle.termwiz_surface.proofs.Drawn.{any_log}
 use Rattle.termwiz_screen.proofs.Logs.{flushed_number, flushed_alike, flushed_whole}
 use Rattle.termwiz_screen.specs.Log.{flushed}
 use Rattle.termwiz_screen.proofs.LogRegions.{regions-flushed}
-use Rattle.termwiz_surface.proofs.RowNumbers.{numbers-flushed}
-use Rattle.termwiz_surface.proofs.Remembering.{keeps_flushed}
+use Rattle.termwiz_surface.proofs.Preserving.{preserves-flushed}
 use Rattle.termwiz_surface.proofs.surface.Surface.flush_changes_older_than.Goals as goal
 
 pub invariant_of-self : goal.invariant_of-self
@@ -25,10 +25,6 @@ returns-clause-emptied g c =
     let log = c.self.inside.log in
     rw (← c.self.view_is, c.flush.ensures) (λ whole. ap (λ n. (flushed log n).changes) whole ∙ flushed_whole log)
 
-pub returns-clause-remembered : goal.returns-clause-remembered
-returns-clause-remembered g c =
-    rw (← c.self.view_is, c.flush.ensures) (keeps_flushed _ _ c.args.seq)
-
-pub returns-clause-numbered : goal.returns-clause-numbered
-returns-clause-numbered g c =
-    rw (← c.self.view_is, c.flush.ensures) (numbers-flushed _ c.args.seq)
+pub returns-clause-preserves : goal.returns-clause-preserves
+returns-clause-preserves g c =
+    rw (← c.self.view_is, c.flush.ensures) (preserves-flushed (measure g.W.Widths.width_of) _ c.args.seq)

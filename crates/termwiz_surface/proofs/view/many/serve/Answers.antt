@@ -9,7 +9,7 @@ pub returns-in-Some : goal.returns-in-Some
 returns-in-Some g c held r =
     let told = c.in-Some.ensures in
     rw c.in-On.is
-    (serves-act (measure g.W.Widths.width_of) c.args.surface.now c.act.new.surface c.args.viewers.now.items c.args.answers.now.items held c.in-On.event c.in-Some.outcome told.widths told.remembered told.step r)
+    (serves-act (measure g.W.Widths.width_of) c.args.surface.now c.act.new.surface c.args.viewers.now.items c.args.answers.now.items held c.in-On.event c.in-Some.outcome told.widths told.preserves.names told.step r)
 
 pub returns-else-v-len : goal.returns-else-v-len
 returns-else-v-len g c =

@@ -9,21 +9,21 @@ use Rattle.uses.specs.Making.{AddsAll, AddsList}
 use Rattle.uses.proofs.Following.{answer_is, never_scrolls}
 use Rattle.uses.proofs.Making.{adds_made, adds_refused}
 use Rattle.uses.proofs.Returned.{returned}
-use Rattle.uses.proofs.Followed.{unnumbered}
+use Rattle.termwiz_surface.proofs.Following.{Follows-none}
 use Rattle.uses.proofs.follower.Follower.catch_up.Goals as goal
 
 pub returns-in_err-copied-clause-follows : goal.returns-in_err-copied-clause-follows
 returns-in_err-copied-clause-follows g c =
     let f = measure g.W.Widths.width_of in
-    unnumbered f _ c.args.surface.now (ap (λ (u : ViewerValue _). f u.surface.widths) c.self.view_is ∙ c.requires.follows.one_measure) refl
+    Follows-none f _ c.args.surface.now (ap (λ (u : ViewerValue _). f u.surface.widths) c.self.view_is ∙ c.requires.follows.one_measure) refl
 
 pub returns-in_err-add_changes-clause-follows : goal.returns-in_err-add_changes-clause-follows
 returns-in_err-add_changes-clause-follows g c =
     let f = measure g.W.Widths.width_of in
     -- whoever followed what was shown follows it after the refused list, so its width value is as it was
     let other : ViewerValue _ = record { surface = c.self.inside.shown; last = 0 } in
-    let stay = c.in_err-add_changes.ensures.followed other (unnumbered f other c.self.inside.shown refl refl) in
-    unnumbered f _ c.args.surface.now (sym stay.one_measure ∙ ap (λ (u : ViewerValue _). f u.surface.widths) c.self.view_is ∙ c.requires.follows.one_measure) refl
+    let stay = c.in_err-add_changes.ensures.preserves.viewers other (Follows-none f other c.self.inside.shown refl refl) in
+    Follows-none f _ c.args.surface.now (sym stay.one_measure ∙ ap (λ (u : ViewerValue _). f u.surface.widths) c.self.view_is ∙ c.requires.follows.one_measure) refl
 
 pub returns-clause-shown : goal.returns-clause-shown
 returns-clause-shown g c =

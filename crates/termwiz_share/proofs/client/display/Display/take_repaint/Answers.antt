@@ -31,4 +31,4 @@ returns-clause-numbered g c =
     rw (← c.self.view_is) (numbers-replaced old fresh c.add_unlogged.new.self
     (rw c.in_ok-surface.ensures (omega (arith, c.current_seqno-number.ensures)))
     (rw c.in_ok-surface.ensures (λ j l. let at : get_or (replicate c.args.answer.height (c.current_seqno-number.result + 1)) j 0 ≡ c.current_seqno-number.result + 1 = get_or-replicate _ j _ 0 l in omega (arith, at, c.current_seqno-number.ensures)))
-    c.add_unlogged.ensures.numbered)
+    c.add_unlogged.ensures.preserves.rows)

@@ -1,7 +1,7 @@
 use Rattle.termwiz_cell.specs.Measure.{measure}
 use Rattle.termwiz_screen.specs.Stream.{stream_of}
-use Rattle.termwiz_surface.proofs.Viewing.{keeps_fitted, FollowsTo-accepted, Follows-accepted, accepted_shows, accepted_shows_fully}
-use Rattle.termwiz_surface.proofs.RowNumbers.{numbers-then}
+use Rattle.termwiz_surface.proofs.Viewing.{FollowsTo-accepted, Follows-accepted, accepted_shows, accepted_shows_fully}
+use Rattle.termwiz_surface.proofs.Preserving.{preserves-then}
 use Rattle.termwiz_surface.proofs.view.viewer.Viewer.follow.Goals as goal
 
 pub returns-clause-steps : goal.returns-clause-steps
@@ -24,12 +24,5 @@ returns-clause-follows g c =
     let got = c.in_ok-number.ensures.fetched in
     λ follows. Follows-accepted (measure g.W.Widths.width_of) c.args.source.now c.args.self.now c.fetch.new.self c.make.new.self c.in_ok-number.number (stream_of c.in_ok-number.changes) got.0 got.1 c.in_ok-number.ensures.sized got.2 follows c.make.result c.make.ensures.accepts
 
-pub returns-clause-followed : goal.returns-clause-followed
-returns-clause-followed g c = λ v follows. c.make.ensures.followed v (c.in_ok-number.ensures.followed v follows)
-
-pub returns-clause-remembered : goal.returns-clause-remembered
-returns-clause-remembered g c =
-    keeps_fitted (measure g.W.Widths.width_of) c.args.source.now c.args.self.now c.fetch.new.self c.make.new.self c.in_ok-number.ensures.fetched.1 c.in_ok-number.ensures.remembered c.make.ensures.remembered
-
-pub returns-clause-numbered : goal.returns-clause-numbered
-returns-clause-numbered g c = numbers-then c.args.self.now.surface c.fetch.new.self.surface c.make.new.self.surface c.in_ok-number.ensures.numbered c.make.ensures.numbered
+pub returns-clause-preserves : goal.returns-clause-preserves
+returns-clause-preserves g c = preserves-then (measure g.W.Widths.width_of) c.args.self.now.surface c.fetch.new.self.surface c.make.new.self.surface c.in_ok-number.ensures.preserves c.make.ensures.preserves

@@ -5,7 +5,7 @@ use Rattle.std.specs.Result.{is_err}
 use Rattle.std.proofs.lemmas.Bool.{cases_eq, true≢false}
 use Rattle.termwiz_cell.specs.ChangeValue.{ChangeValue}
 use Rattle.termwiz_screen.specs.Log.{LogValue, next_number, appended, flushed, passed}
-use Rattle.termwiz_screen.specs.Picture.{Pictures, screens, full_screens}
+use Rattle.termwiz_screen.specs.Picture.{screens, full_screens}
 use Rattle.termwiz_screen.specs.Step.{replay, replay_kept}
 use Rattle.termwiz_screen.proofs.Logs.{passed-flushed, passed-unknown}
 use Rattle.termwiz_surface.specs.Adding.{with_log}

@@ -1,12 +1,11 @@
 -- What asking and applying make of a viewer is what following may make of it.
-use Rattle.std.proofs.Common.{◌≡◌, ℕ, ◌+◌, ◌<◌, ◌≤◌, ◌^◌, inl, inr, true, List, length, sym, ap, subst, ◌∙◌, arith}
+use Rattle.std.proofs.Common.{◌≡◌, ℕ, ◌+◌, ◌<◌, ◌≤◌, ◌^◌, inl, inr, true, List, length, sym, ap, ◌∙◌, arith}
 use Rattle.std.specs.Prelude.{Result, Ok, Err, OnOk}
 use Rattle.std.proofs.lemmas.Bool.{cases_Bool, true≢false}
 use Rattle.std.proofs.lemmas.Bool.Decides.{nat_tests}
 use Rattle.termwiz_cell.specs.ChangeValue.{ChangeValue}
 use Rattle.termwiz_surface.specs.Following.{ViewerValue, Follows, Fits, IsFitted, IsAnswer, Fetches, Accepts, IsLost, HasNoRoom, HasRoom, FollowsTo, forgetful, has_size_of}
-use Rattle.termwiz_screen.specs.Log.{LogValue, next_number}
-use Rattle.termwiz_screen.specs.Picture.{Pictures, screens, full_screens}
+use Rattle.termwiz_screen.specs.Log.{next_number}
 use Rattle.termwiz_surface.specs.Adding.{Makes}
 use Rattle.termwiz_screen.specs.FullScreen.{HasFullSize, full_replay}
 use Rattle.termwiz_surface.specs.Surface.{SurfaceValue, screen_of, full_of}

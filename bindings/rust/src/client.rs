@@ -7,6 +7,7 @@ use crate::handle::{self, Handle};
 use crate::head::{self, ARRAY, UNSIGNED};
 use crate::screen::Screen;
 use crate::widths::Widths;
+use std::ops::Deref;
 
 /// What a client asks of the surface whose answers it is fed: bytes, which can go over any
 /// connection.
@@ -179,12 +180,9 @@ impl Client {
                 unsafe { ffi::tk_client_new_by(handle, ranges, count, cells, bytes) }
             }
         })?;
-        let screen = Screen {
-            handle,
-            widths,
-            is_of_surface: false,
-        };
-        Ok(Client { screen })
+        Ok(Client {
+            screen: Screen::new(handle, widths),
+        })
     }
 
     /// Takes the next bytes of a stream of answers, in whatever chunks they come, and returns how
@@ -292,6 +290,15 @@ impl Client {
     /// What it shows.
     #[must_use]
     pub fn screen(&self) -> &Screen {
+        &self.screen
+    }
+}
+
+/// What it shows.
+impl Deref for Client {
+    type Target = Screen;
+
+    fn deref(&self) -> &Screen {
         &self.screen
     }
 }

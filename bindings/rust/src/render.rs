@@ -45,9 +45,9 @@
 //!
 //! # What a write costs
 //!
-//! Of the [`Surface`] that was shown last, only the rows are read that may have changed since then.
-//! Of another one, and of what a viewer or a client shows, all rows are read. Cells are compared
-//! only in rows that differ from what the terminal shows.
+//! Of the [`Screen`] that was shown last, only the rows are read that may have changed since then;
+//! of another one all rows are. Cells are compared only in rows that differ from what the terminal
+//! shows.
 
 mod colors;
 mod compose;
@@ -96,10 +96,10 @@ pub struct Renderer {
     buffer: RowBuffer,
 }
 
-/// The rows of a terminal, and of which surface they were read, if of one.
+/// The rows of a terminal, and the version of the screen of which they were read.
 struct Shown {
     lines: Vec<Rc<Line>>,
-    version: Option<Version>,
+    version: Version,
 }
 
 impl Renderer {

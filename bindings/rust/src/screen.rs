@@ -10,6 +10,10 @@ use crate::handle::{self, Handle};
 use crate::rows::{Row, Rows};
 use crate::widths::Widths;
 use std::fmt;
+use std::sync::atomic::{AtomicU64, Ordering};
+
+/// How many screens this process has made.
+static MADE: AtomicU64 = AtomicU64::new(0);
 
 /// What a surface, a viewer or a client shows: rows of cells, and the cursor.
 ///
@@ -28,13 +32,26 @@ use std::fmt;
 /// ```
 pub struct Screen {
     pub(crate) handle: Handle,
-    pub(crate) widths: Widths,
-    /// Whether it is that of a surface, and not of a viewer or a client, whose number is that of
-    /// what they show and not of their own rows.
-    pub(crate) is_of_surface: bool,
+    widths: Widths,
+    /// Another one for each screen of this process.
+    identity: u64,
 }
 
 impl Screen {
+    /// The screen of a handle that measures texts by these widths.
+    pub(crate) fn new(handle: Handle, widths: Widths) -> Screen {
+        let identity = MADE.fetch_add(1, Ordering::Relaxed);
+        Screen {
+            handle,
+            widths,
+            identity,
+        }
+    }
+
+    pub(crate) fn identity(&self) -> u64 {
+        self.identity
+    }
+
     /// The width in columns and the height in rows.
     #[must_use]
     pub fn dimensions(&self) -> (usize, usize) {
@@ -149,20 +166,50 @@ impl Screen {
         )
     }
 
-    /// The number of the source that it shows, and that of the coming change there.
-    pub(crate) fn source_and_number(&self) -> (usize, SequenceNo) {
-        let settings = self.settings();
-        (settings.source, settings.number)
+    /// The number of the coming change. A viewer and a client number the changes that they make by
+    /// themselves; their numbers are not those of the surface that they show.
+    #[must_use]
+    pub fn current_seqno(&self) -> SequenceNo {
+        self.handle.number(ffi::tk_number).unwrap_or_default()
     }
 
-    /// For each row a byte that isn't 0 where it may show something else than when the screen's
-    /// own surface had this number.
-    pub(crate) fn changed_rows(&self, since: SequenceNo) -> Result<Vec<u8>, Error> {
+    /// Whether a change was made since this was the [number](Screen::current_seqno) of the coming
+    /// one.
+    #[must_use]
+    pub fn has_changes(&self, number: SequenceNo) -> bool {
+        self.current_seqno() != number
+    }
+
+    /// For each row from the top whether it may show something else than when the screen had this
+    /// [number](Screen::current_seqno), in its cells or in how large it is shown. Each row may
+    /// where that is 0.
+    ///
+    /// ```
+    /// use tikeburo::{Client, Surface};
+    ///
+    /// let mut surface = Surface::new(8, 3)?;
+    /// let mut client = Client::new()?;
+    /// surface.add_change("one\r\ntwo")?;
+    /// client.feed(&surface.respond(&client.ask()?)?)?;
+    /// let (of_surface, of_client) = (surface.current_seqno(), client.current_seqno());
+    ///
+    /// surface.add_change("!")?;
+    /// client.feed(&surface.respond(&client.ask()?)?)?;
+    /// assert_eq!(surface.changed_rows(of_surface)?, [false, true, false]);
+    /// assert_eq!(client.changed_rows(of_client)?, [false, true, false]);
+    /// # Ok::<(), tikeburo::Error>(())
+    /// ```
+    ///
+    /// # Errors
+    ///
+    /// [`Error::Memory`].
+    pub fn changed_rows(&self, since: SequenceNo) -> Result<Vec<bool>, Error> {
         let handle = self.handle.get();
         // Safety: the handle is live, and the buffer has the room that is named.
-        handle::bytes(&mut [0; 64], |rows, room, count| unsafe {
+        let rows = handle::bytes(&mut [0; 64], |rows, room, count| unsafe {
             ffi::tk_changed_rows(handle, since, rows, room, count)
-        })
+        })?;
+        Ok(rows.into_iter().map(|row| row != 0).collect())
     }
 
     fn settings(&self) -> tk_settings {

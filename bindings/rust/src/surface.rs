@@ -111,13 +111,8 @@ impl Surface {
                 unsafe { ffi::tk_surface_new_by(handle, width, height, ranges, count, source) }
             }
         })?;
-        let screen = Screen {
-            handle,
-            widths,
-            is_of_surface: true,
-        };
         Ok(Surface {
-            screen,
+            screen: Screen::new(handle, widths),
             source,
             keeps_changes: true,
         })
@@ -430,41 +425,6 @@ impl Surface {
     pub fn resize(&mut self, width: usize, height: usize) -> Result<(), Error> {
         // Safety: the handle is live.
         Error::check(unsafe { ffi::tk_resize(self.handle.get(), width, height) })
-    }
-
-    /// The number of the coming change.
-    #[must_use]
-    pub fn current_seqno(&self) -> SequenceNo {
-        self.handle.number(ffi::tk_number).unwrap_or_default()
-    }
-
-    /// For each row from the top whether it may show something else than when the surface had this
-    /// [number](Surface::current_seqno), in its cells or in how large it is shown. Each row may
-    /// where that is 0.
-    ///
-    /// ```
-    /// use tikeburo::Surface;
-    ///
-    /// let mut surface = Surface::new(8, 3)?;
-    /// surface.add_change("one\r\ntwo")?;
-    /// let since = surface.current_seqno();
-    /// surface.add_change("!")?;
-    /// assert_eq!(surface.changed_rows(since)?, [false, true, false]);
-    /// # Ok::<(), tikeburo::Error>(())
-    /// ```
-    ///
-    /// # Errors
-    ///
-    /// [`Error::Memory`].
-    pub fn changed_rows(&self, since: SequenceNo) -> Result<Vec<bool>, Error> {
-        let rows = self.screen.changed_rows(since)?;
-        Ok(rows.into_iter().map(|row| row != 0).collect())
-    }
-
-    /// Whether a change was made since this was the number of the coming one.
-    #[must_use]
-    pub fn has_changes(&self, number: SequenceNo) -> bool {
-        self.current_seqno() != number
     }
 
     /// What a client asks that shows all that the surface shows now. So an answer has something new

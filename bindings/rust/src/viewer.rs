@@ -4,6 +4,7 @@ use crate::error::Error;
 use crate::ffi;
 use crate::handle::Handle;
 use crate::screen::Screen;
+use std::ops::Deref;
 
 /// Shows what a surface of this process showed when it followed last.
 ///
@@ -34,13 +35,9 @@ impl Viewer {
         let handle = Handle::made(|handle| unsafe {
             ffi::tk_viewer_new_distinct(handle, source.handle.get())
         })?;
-        let widths = source.widths();
-        let screen = Screen {
-            handle,
-            widths,
-            is_of_surface: false,
-        };
-        Ok(Viewer { screen })
+        Ok(Viewer {
+            screen: Screen::new(handle, source.widths()),
+        })
     }
 
     /// Shows what the source shows: its size too. It makes the changes since it followed last,
@@ -62,6 +59,15 @@ impl Viewer {
     /// What it shows.
     #[must_use]
     pub fn screen(&self) -> &Screen {
+        &self.screen
+    }
+}
+
+/// What it shows.
+impl Deref for Viewer {
+    type Target = Screen;
+
+    fn deref(&self) -> &Screen {
         &self.screen
     }
 }

@@ -65,20 +65,20 @@ impl Renderer {
         vec![blank; height]
     }
 
-    /// What the terminal shows of a screen. Of the surface that was shown last only those rows are
+    /// What the terminal shows of a screen. Of the screen that was shown last only those rows are
     /// read that may have changed.
     pub(super) fn read(&mut self, screen: &Screen) -> Result<Shown, crate::Error> {
         let version = Version::of(screen);
         let shown = self.shown.as_ref();
         let old = shown.map_or(&[][..], |shown| &shown.lines);
-        let changed = match (version, shown.and_then(|shown| shown.version)) {
-            (Some(version), Some(old)) => version.changed_rows(old, screen)?,
-            _ => None,
+        let changed = match shown {
+            Some(shown) => shown.version.changed_rows(screen)?,
+            None => None,
         };
         let changed = changed.unwrap_or_default();
         let mut lines = Vec::with_capacity(self.options.height);
         for row in 0..self.options.height {
-            let is_same = changed.get(row) == Some(&0);
+            let is_same = changed.get(row) == Some(&false);
             let line = match old.get(row) {
                 Some(line) if is_same => Rc::clone(line),
                 _ => {

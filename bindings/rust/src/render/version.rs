@@ -1,35 +1,35 @@
-//! Which surface a screen is, and when it was read.
+//! Which screen was read, and when.
 
 use crate::change::SequenceNo;
 use crate::error::Error;
 use crate::screen::Screen;
 
-/// A surface, and the number of its coming change when its rows were read.
+/// A screen, and the number of its coming change when its rows were read.
 #[derive(Clone, Copy, PartialEq, Eq, Debug)]
 pub(super) struct Version {
-    source: usize,
+    screen: u64,
     number: SequenceNo,
 }
 
 impl Version {
-    /// That of a screen, where it is a surface's. A viewer and a client name the surface that they
-    /// show, but number their rows by themselves.
-    pub fn of(screen: &Screen) -> Option<Version> {
-        let (source, number) = screen.source_and_number();
-        screen.is_of_surface.then_some(Version { source, number })
+    pub fn of(screen: &Screen) -> Version {
+        Version {
+            screen: screen.identity(),
+            number: screen.current_seqno(),
+        }
     }
 
-    /// For each row of the screen of this version whether it may show something else than when an
-    /// older one was read. Nothing is known where that was another surface's.
+    /// For each row of a screen whether it may show something else than when it had this version.
+    /// Of another screen than this version's nothing is known.
     ///
     /// # Errors
     ///
     /// [`Error::Memory`].
-    pub fn changed_rows(self, old: Version, screen: &Screen) -> Result<Option<Vec<u8>>, Error> {
-        if self.source != old.source {
+    pub fn changed_rows(self, screen: &Screen) -> Result<Option<Vec<bool>>, Error> {
+        if self.screen != screen.identity() {
             return Ok(None);
         }
-        screen.changed_rows(old.number).map(Some)
+        screen.changed_rows(self.number).map(Some)
     }
 }
 
@@ -41,32 +41,49 @@ mod tests {
     use crate::viewer::Viewer;
 
     #[test]
-    fn surfaces_have_versions() {
+    fn a_surface_says_which_rows_changed() {
         let mut surface = Surface::new(4, 3).unwrap();
-        let first = Version::of(&surface).unwrap();
+        let first = Version::of(&surface);
         surface.add_change("one\r\ntwo").unwrap();
-        let old = Version::of(&surface).unwrap();
+        let old = Version::of(&surface);
         surface.add_change("!").unwrap();
-        let new = Version::of(&surface).unwrap();
-        let changed = |from, to: Version| to.changed_rows(from, &surface).unwrap();
-        assert_eq!(changed(new, new), Some(vec![0, 0, 0]));
-        assert_eq!(changed(old, new), Some(vec![0, 1, 0]));
-        assert_eq!(changed(first, new), Some(vec![1, 1, 1]));
+        let new = Version::of(&surface);
+        let changed = |version: Version| version.changed_rows(&surface).unwrap();
+        assert_eq!(changed(new), Some(vec![false, false, false]));
+        assert_eq!(changed(old), Some(vec![false, true, false]));
+        assert_eq!(changed(first), Some(vec![true, true, true]));
 
-        let other = Version::of(&Surface::new(4, 3).unwrap()).unwrap();
-        assert_eq!(changed(other, new), None);
+        let other = Surface::new(4, 3).unwrap();
+        assert_eq!(changed(Version::of(&other)), None);
+    }
+
+    /// Brings both what the surface shows.
+    fn bring(surface: &mut Surface, viewer: &mut Viewer, client: &mut Client) {
+        viewer.follow(surface).unwrap();
+        let answer = surface.respond(&client.ask().unwrap()).unwrap();
+        client.feed(&answer).unwrap();
     }
 
     #[test]
-    fn viewers_and_clients_have_none() {
+    fn a_viewer_and_a_client_do_too() {
         let mut surface = Surface::new(4, 3).unwrap();
-        surface.add_change("one").unwrap();
         let mut viewer = Viewer::new(&surface).unwrap();
-        viewer.follow(&surface).unwrap();
-        assert_eq!(Version::of(viewer.screen()), None);
         let mut client = Client::new().unwrap();
-        let answer = surface.respond(&client.ask().unwrap()).unwrap();
-        client.feed(&answer).unwrap();
-        assert_eq!(Version::of(client.screen()), None);
+        surface.add_change("one\r\ntwo").unwrap();
+        bring(&mut surface, &mut viewer, &mut client);
+        let (viewed, fed) = (Version::of(&viewer), Version::of(&client));
+
+        surface.add_change("!").unwrap();
+        bring(&mut surface, &mut viewer, &mut client);
+        let second = Some(vec![false, true, false]);
+        assert_eq!(viewed.changed_rows(&viewer).unwrap(), second);
+        assert_eq!(fed.changed_rows(&client).unwrap(), second);
+
+        // Of another surface all is shown anew.
+        let mut other = Surface::new(4, 3).unwrap();
+        bring(&mut other, &mut viewer, &mut client);
+        let all = Some(vec![true; 3]);
+        assert_eq!(viewed.changed_rows(&viewer).unwrap(), all);
+        assert_eq!(fed.changed_rows(&client).unwrap(), all);
     }
 }

@@ -201,9 +201,18 @@ export function readChanges(reader, answer) {
     }
 }
 
+/** A number of 64 bits that an integer is, as a BigInt. */
+function checkNumber(value) {
+    const isExact = typeof value === 'bigint' || Number.isSafeInteger(value);
+    if (isExact && BigInt.asUintN(64, BigInt(value)) === BigInt(value)) return BigInt(value);
+    throw new RangeError(`${value}, not an integer from 0 to 2^64 - 1`);
+}
+
 /** The bytes of `[2, surface, number]`. */
 export function encodeAsk(surface, number) {
-    return Uint8Array.of(0x83, VERSION, ...encodeHead(UINT, surface), ...encodeHead(UINT, number));
+    const [source, shown] = [surface, number].map(checkNumber);
+    if (!source && shown) throw new RangeError(`number ${shown} of no surface`);
+    return Uint8Array.of(0x83, VERSION, ...encodeHead(UINT, source), ...encodeHead(UINT, shown));
 }
 
 /** What an ask says: the surface and the number that its viewer shows. */
@@ -211,5 +220,7 @@ export function decodeAsk(bytes) {
     const reader = new Reader(bytes, Infinity);
     readVersion(reader, 3);
     const surface = BigInt(reader.item(UINT));
-    return { surface, number: BigInt(reader.item(UINT, 0, surface ? Infinity : 0)) };
+    const number = BigInt(reader.item(UINT, 0, surface ? Infinity : 0));
+    if (reader.next < bytes.length) reader.fail('range', 'bytes behind the ask', reader.next);
+    return { surface, number };
 }

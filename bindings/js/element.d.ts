@@ -12,10 +12,11 @@ export class TikeburoScreen extends HTMLElement {
     /** Where the source is a recording. */
     readonly player: Player | null;
     /**
-     * `ready` is said of a recording that is there; `ended`, where the program has ended; `lost`
-     * waits for a new connection.
+     * `ready` is said of a recording that is there; `ended`, where the program has ended; `gone`,
+     * where the server has no such screen, or no longer; `lost` waits for a new connection, but
+     * after a fault that this would bring again.
      */
-    readonly state: 'connecting' | 'live' | 'ready' | 'ended' | 'lost' | undefined;
+    readonly state: 'connecting' | 'live' | 'ready' | 'ended' | 'gone' | 'lost' | undefined;
     /** In words: who has stopped, the program, the server or the connection, or what is wrong. */
     readonly message: string | undefined;
     /** How large it is shown, by the attribute of this name; 1 is as it fits. */

@@ -1,13 +1,13 @@
 // <tikeburo-screen src="ADDRESS"> shows a surface's screen: README.md has its attributes.
 import { Grid, STYLES } from './grid.mjs';
+import { endOf, isPassing, pull, receive, respond, Stopped } from './pull.mjs';
 import { Player, readRecording } from './recording.mjs';
-import { Client } from './tikeburo.mjs';
+import { Client, Fault } from './tikeburo.mjs';
 
 const FIRST_WAIT = 500, LONGEST_WAIT = 15000; // milliseconds before a new connection
 const LONGEST_FRAME = 1000; // milliseconds that are played in one; a page that sleeps plays none
 const LARGEST = 16; // a zoom
 const ENTRY = 0x82; // a recording's first byte
-const FINAL = ['version', 'limit']; // faults that another connection would bring again
 
 const pause = milliseconds => new Promise(done => setTimeout(done, milliseconds));
 const nextFrame = () => new Promise(done => requestAnimationFrame(done));
@@ -23,13 +23,18 @@ const MEANINGS = {
     limit: 'it is more than this page takes',
 };
 const DAMAGED = 'what the program sends is damaged', ENDED = 'the program has ended';
+const GONE = 'the server has no such screen, or no longer';
 
 const describe = fault => `answer ${fault.answer}: ${fault.message} (${fault.why})`;
 
-/** Why no more comes from a source, in words that say who has stopped. */
-class Stopped extends Error {}
-
-const isOffline = () => globalThis.navigator?.onLine === false;
+/** What is wrong, in words. */
+function explain(problem) {
+    if (problem instanceof Stopped) return problem.message;
+    if (problem instanceof Fault) {
+        return `${describe(problem)}: ${MEANINGS[problem.kind] ?? DAMAGED}`;
+    }
+    return `this page can't show it (${problem.message})`;
+}
 
 function make(name, part, properties = {}) {
     const made = document.createElement(name);
@@ -122,7 +127,9 @@ export class TikeburoScreen extends HTMLElement {
 
     #start() {
         this.#stop();
-        const onanswer = () => this.#showAnswer(false), onstale = () => this.#showAnswer(true);
+        const onanswer = () => this.#showAnswer(false);
+        // Who asks isn't late: a stale answer came from a cache, and the next one fits.
+        const onstale = this.hasAttribute('pull') ? null : () => this.#showAnswer(true);
         this.#client = new Client({ ...this.#limits, onanswer, onstale });
         if (!this.hasAttribute('src')) return;
         this.#connection = new AbortController();
@@ -131,82 +138,67 @@ export class TikeburoScreen extends HTMLElement {
 
     // ------------------------------------------------------------------ sources
 
-    /** Follows the source, over new connections where one is lost. */
-    async #connect(client, signal) {
-        let problem = '';
-        for (let wait = FIRST_WAIT; !signal.aborted; wait = Math.min(2 * wait, LONGEST_WAIT)) {
+    #connect(client, signal) {
+        const address = this.getAttribute('src');
+        if (this.hasAttribute('pull')) this.#pull(client, address, signal);
+        else this.#stream(client, address, signal);
+    }
+
+    /** Asks over and over. A page that isn't seen draws no frame, and so asks for none. */
+    async #pull(client, address, signal) {
+        const wait = async () => {
+            await nextFrame();
+            if (this.state === 'lost' && !signal.aborted) this.#say('connecting', this.message);
+        };
+        const onproblem = problem => this.#say('lost', explain(problem));
+        this.#say('connecting', '');
+        try {
+            this.#end(await pull(client, address, { signal, wait, onproblem }));
+        } catch (problem) {
+            if (!signal.aborted) onproblem(problem);
+        }
+    }
+
+    /** Shows a stream or a recording, over new connections where one is lost. */
+    async #stream(client, address, signal) {
+        for (let wait = FIRST_WAIT, problem = ''; ; wait = Math.min(2 * wait, LONGEST_WAIT)) {
             client.restart();
             this.#say('connecting', problem);
             try {
-                if (await this.#follow(client, signal)) return;
-                problem = `${describe(client.fault)}: ${MEANINGS[client.fault.kind] ?? DAMAGED}`;
+                return this.#end(await this.#read(client, address, signal));
             } catch (error) {
-                problem = error instanceof Stopped ? error.message
-                    : `this page can't show it (${error.message})`;
+                if (signal.aborted) return undefined;
+                problem = explain(error);
+                this.#say('lost', problem);
+                if (!isPassing(error)) return undefined;
             }
-            if (signal.aborted) return;
-            this.#say('lost', problem);
-            if (FINAL.includes(client.fault?.kind)) return;
             if (client.answers) wait = FIRST_WAIT;
             await pause(wait);
+            if (signal.aborted) return undefined;
         }
     }
 
-    /** Whether the source came to its end. */
-    async #follow(client, signal) {
-        const address = this.getAttribute('src'), pulls = this.hasAttribute('pull');
-        const isOver = pulls
-            ? await this.#pull(client, address, signal) : await this.#read(client, address, signal);
-        if (isOver && !this.#player) this.#say('ended', ENDED);
-        return isOver;
-    }
-
-    async #fetch(address, options) {
-        const response = await fetch(address, { cache: 'no-store', ...options }).catch(() => {
-            throw new Stopped(isOffline() ? 'this device has no connection'
-                : "the server doesn't answer: it has stopped, or can't be reached");
-        });
-        if (response.ok || response.status === 410) return response;
-        throw new Stopped(`the server sends no screen, but the status ${response.status}`);
-    }
-
-    /** Waits for what comes over a connection that stands. */
-    async #receive(coming) {
-        return coming.catch(() => {
-            throw new Stopped(isOffline() ? 'this device has lost its connection'
-                : 'the connection is lost: the server has stopped, or the way to it is cut');
-        });
-    }
-
-    /**
-     * Sends what is shown, and shows what the source answers, over and over. A page that isn't seen
-     * draws no frame and so asks for none.
-     */
-    async #pull(client, address, signal) {
-        while (!client.fault) {
-            const options = { method: 'POST', body: client.ask(), signal };
-            const response = await this.#fetch(address, options);
-            if (response.status === 410) return true;
-            client.feed(new Uint8Array(await this.#receive(response.arrayBuffer())));
-            client.end();
-            await nextFrame();
-        }
-        return false;
-    }
-
-    /** Shows a stream as its bytes come, or plays it once they are all there. */
+    /** Shows a stream to its end, or plays it once all its bytes are there: then it has no end. */
     async #read(client, address, signal) {
-        const response = await this.#fetch(address, { signal }), kept = [];
+        const response = await respond(fetch(address, { cache: 'no-store', signal })), kept = [];
+        const end = endOf(response);
+        if (end) return end;
+        const reader = response.body.getReader();
         let plays = this.hasAttribute('controls');
-        for (const reader = response.body.getReader(); !client.fault;) {
-            const { done, value } = await this.#receive(reader.read());
-            if (done) break;
-            if (!kept.length && value[0] === ENTRY) plays = true;
-            if (plays) kept.push(value);
-            else client.feed(value);
+        for (let bytes; (bytes = await receive(reader));) {
+            if (!kept.length && bytes[0] === ENTRY) plays = true;
+            if (plays) kept.push(bytes);
+            else client.feed(bytes);
+            if (client.fault) reader.cancel();
         }
         if (plays) this.#open(new Uint8Array(await new Blob(kept).arrayBuffer()));
-        return plays || client.end() === null;
+        else if (client.end()) throw client.fault;
+        return plays ? null : { state: 'ended', exit: null };
+    }
+
+    #end(end) {
+        const status = end?.exit ? `, with status ${end.exit}` : '';
+        if (end) this.#say(end.state, end.state === 'gone' ? GONE : ENDED + status);
     }
 
     /** What leads on from another screen isn't shown: whoever joins late waits for a repaint. */

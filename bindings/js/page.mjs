@@ -8,7 +8,7 @@ const OTHER_LOOK = { dark: 'light', light: 'dark' };
 const ZOOMS = [0.5, 0.75, 1, 1.25, 1.5, 2, 3, 4], KEPT = 'tikeburo-zoom';
 const STEPS = { '+': 1, '=': 1, '-': -1, '0': 0 }; // keys; a step of 0 is to the first size
 const STATES = {
-    connecting: 'connecting', live: 'live', ready: 'a recording', ended: 'ended',
+    connecting: 'connecting', live: 'live', ready: 'a recording', ended: 'ended', gone: 'gone',
     lost: 'not connected',
 };
 

@@ -23,7 +23,7 @@ const PORT = 8002, MOST_PORT = 65535;
 const AT_ONCE = 65536;
 const KINDS = { html: 'text/html; charset=utf-8', css: 'text/css', mjs: 'text/javascript' };
 const FILES = ['index.html', 'page.css', 'page.mjs', 'answer.mjs', 'element.mjs', 'grid.mjs',
-    'look.mjs', 'reader.mjs', 'recording.mjs', 'screen.mjs', 'tikeburo.mjs'];
+    'look.mjs', 'pull.mjs', 'reader.mjs', 'recording.mjs', 'screen.mjs', 'tikeburo.mjs'];
 const HEADERS = {
     'cache-control': 'no-store',
     'content-security-policy': "default-src 'none'; script-src 'self'; connect-src 'self'; "

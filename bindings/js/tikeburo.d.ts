@@ -169,8 +169,15 @@ export class Client {
     restart(): void;
 }
 
-/** The bytes of an ask for what lies behind this number of this surface; 0 and 0 for a repaint. */
-export function encodeAsk(surface: bigint, number: bigint): Uint8Array;
+/**
+ * The bytes of an ask for what lies behind this number of this surface; 0 and 0 for a repaint.
+ * Throws a `RangeError` where one is no integer from 0 to 2^64 - 1, or a double above 2^53 - 1, and
+ * where the surface is 0 and the number isn't.
+ */
+export function encodeAsk(surface: bigint | number, number: bigint | number): Uint8Array;
 
-/** What an ask says. Throws a `Fault` where the bytes are no ask. */
+/**
+ * What an ask says. Throws a `Fault` where the bytes are no ask: `truncated` where they end too
+ * early, and `range` where more follow it.
+ */
 export function decodeAsk(bytes: Uint8Array): { surface: bigint; number: bigint };

@@ -9,7 +9,7 @@ import test, { after, before } from 'node:test';
 import { fileURLToPath } from 'node:url';
 import { Player, readRecording } from '../recording.mjs';
 import { answer, Kept, serve } from '../serve.mjs';
-import { Client, decodeAsk } from '../tikeburo.mjs';
+import { Client } from '../tikeburo.mjs';
 import { ELEMENT, judgeCells, judgePixels, ROOT } from './cells.mjs';
 import { Chromium, findChromium } from './chromium.mjs';
 import { sequence } from './encode.mjs';
@@ -43,6 +43,7 @@ async function open(source, query = '', width = 1000, height = 640) {
 }
 
 const numberIs = number => `${ELEMENT}.screen.number === ${number}n && ${ELEMENT}.state === 'live'`;
+const pause = milliseconds => new Promise(done => setTimeout(done, milliseconds));
 const drawn = page => page.evaluate(
     'new Promise(done => requestAnimationFrame(() => requestAnimationFrame(done)))');
 
@@ -173,11 +174,11 @@ test('links open on a click alone, and https alone', { skip }, async () => {
     ]);
     opened.length = 0;
     await page.click(places[1][3], places[1][4]);
-    await new Promise(done => setTimeout(done, 200));
+    await pause(200);
     assert.equal(opened.length, 0);
     await page.click(places[0][3], places[0][4]);
     for (let left = 100; left && !opened.length; left--) {
-        await new Promise(done => setTimeout(done, 50));
+        await pause(50);
     }
     assert.equal(opened.length, 1);
 });
@@ -359,7 +360,7 @@ test('who has stopped is said in words', { skip }, async () => {
     assert.equal(await shownText(page), 'it stays|||');
     page = await open(kept);
     await page.evaluate(`${ELEMENT}.setAttribute('src', 'nowhere')`);
-    await says(page, 'lost', 'the server sends no screen, but the status 404');
+    await says(page, 'gone', 'the server has no such screen, or no longer');
     await page.send('Network.enable');
     await page.send('Network.emulateNetworkConditions',
         { offline: true, latency: 0, downloadThroughput: -1, uploadThroughput: -1 });
@@ -436,66 +437,95 @@ test('a damaged stream: the screen stays, and the place is shown', { skip }, asy
     assert.equal(await shownText(page), 'it stays|||');
 });
 
-/** A source that holds each ask until `put` has what to answer: bytes, or a status. */
+/** A source that holds each ask until `put` has what to answer: bytes, or a status and headers. */
 class Asked {
     asks = [];
     #answers = [];
     #waiting = [];
 
     async start() {
-        const server = createServer((request, response) => (request.method === 'POST'
-            ? this.#hold(request, response)
-            : answer(request, response, null, server.address().port)));
+        const server = createServer((request, response) => {
+            const [, ask] = /^\/stream\/(.*)$/.exec(request.url) ?? [];
+            if (!ask) return answer(request, response, null, server.address().port);
+            this.asks.push(ask);
+            this.#waiting.push(response);
+            const { method, headers } = request;
+            this.last = [method, headers['cache-control'], headers.pragma];
+            return this.#match();
+        });
         servers.push(server);
         server.listen(0, '127.0.0.1');
         await once(server, 'listening');
         return `http://127.0.0.1:${server.address().port}/?pull`;
     }
 
-    async #hold(request, response) {
-        const parts = [];
-        for await (const part of request) parts.push(part);
-        const { surface, number } = decodeAsk(Buffer.concat(parts));
-        this.asks.push(`${surface} ${number}`);
-        this.#waiting.push(response);
-        this.#match();
-    }
-
-    put(next) {
-        this.#answers.push(next);
+    put(next, headers = {}) {
+        this.#answers.push([next, headers]);
         this.#match();
     }
 
     #match() {
         while (this.#answers.length && this.#waiting.length) {
-            const next = this.#answers.shift(), response = this.#waiting.shift();
-            response.writeHead(typeof next === 'number' ? next : 200);
+            const [next, headers] = this.#answers.shift(), response = this.#waiting.shift();
+            // Of a 410 that doesn't say how long it holds, a browser believes that it does for ever.
+            headers['cache-control'] ??= 'no-store';
+            response.writeHead(typeof next === 'number' ? next : 200, headers);
             response.end(typeof next === 'number' ? '' : next);
         }
     }
 }
 
+const says = (page, state, message) => page.until(
+    `${ELEMENT}.state === '${state}' && ${ELEMENT}.message === ${JSON.stringify(message)}`);
+
 test('a source that takes asks', { skip }, async () => {
     const source = new Asked(), page = await browser.open(await source.start(), 800, 600);
     const next = (base, text) => sequence([2, 9, 20, 4, base, base + 1, [[2, text]]]);
-    source.put(repaint(5, [2, 'one']));
+    source.put(repaint(5, [12, 'a program'], [2, 'one']));
     await page.until(`customElements.get('tikeburo-screen') && ${numberIs(5)}`);
+    await page.until("document.title === 'a program'");
     source.put(next(5, ' two'));
-    source.put(500); // from then on it is another connection
+    source.put(503);
+    await says(page, 'connecting', 'the server sends no screen, but the status 503');
     source.put(next(6, ' three'));
     await page.until(numberIs(7));
+    assert.deepEqual(source.last, ['GET', undefined, undefined]);
+    source.put(Uint8Array.from([0x87, 2, 0]));
+    await page.until(`/what the program sends is damaged$/.test(${ELEMENT}.message)`);
+    source.put(repaint(9, [2, 'one two three four']));
+    await page.until(numberIs(9));
     source.put(Uint8Array.from([0x87, 3]));
     await page.until(`${ELEMENT}.state === 'lost'`);
     assert.match(await page.evaluate(`${ELEMENT}.message`), /: the program sends another form$/);
     await drawn(page);
-    assert.equal(await shownText(page), 'one two three|||');
-    assert.deepEqual(source.asks, ['0 0', '9 5', '9 6', '9 6', '9 7']);
-    await page.evaluate(`${ELEMENT}.setAttribute('src', 'again')`); // a version is no passing fault
-    source.put(repaint(1, [2, 'anew']));
-    await page.until(numberIs(1));
-    source.put(410);
-    await page.until(`${ELEMENT}.state === 'ended'`);
-    assert.deepEqual(source.asks.slice(5), ['0 0', '9 1']);
+    assert.equal(await shownText(page), 'one two three four|||');
+    assert.deepEqual(source.asks, ['0/0', '9/5', '9/6', '9/6', '9/7', '0/0', '9/9']);
+});
+
+test('a source that takes asks says how it ends', { skip }, async () => {
+    const source = new Asked(), page = await browser.open(await source.start(), 800, 600);
+    const begin = (...end) => {
+        source.put(repaint(1, [2, 'it stays']));
+        source.put(...end);
+    };
+    begin(410, { 'exit-status': '3' });
+    await page.until(`customElements.get('tikeburo-screen')`);
+    await says(page, 'ended', 'the program has ended, with status 3');
+    const ends = [
+        [[410, { 'exit-status': '0' }], 'ended', 'the program has ended'],
+        [[410, { 'exit-status': '<b>' }], 'ended', 'the program has ended'],
+        [[410], 'ended', 'the program has ended'],
+        [[404], 'gone', 'the server has no such screen, or no longer'],
+    ];
+    for (const [end, state, message] of ends) {
+        begin(...end);
+        await page.evaluate(`${ELEMENT}.setAttribute('src', 'stream/')`);
+        await says(page, state, message);
+        await drawn(page);
+        assert.equal(await shownText(page), 'it stays|||');
+    }
+    await pause(500);
+    assert.deepEqual(source.asks, Array(5).fill(['0/0', '9/1']).flat()); // and nothing more
 });
 
 test('screenshots of the demo', { skip: skip || !process.env.SHOTS }, async () => {

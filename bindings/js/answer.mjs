@@ -201,6 +201,13 @@ export function readChanges(reader, answer) {
     }
 }
 
+/** The bytes of an answer up to its changes, with how many there are. */
+export function encodeAnswerHead({ surface, width, height, base, number, count }) {
+    const numbers = [VERSION, surface, width, height, base, number];
+    return Uint8Array.from([...encodeHead(ARRAY, 7),
+        ...numbers.flatMap(value => encodeHead(UINT, value)), ...encodeHead(ARRAY, count)]);
+}
+
 /** A number of 64 bits that an integer is, as a BigInt. */
 function checkNumber(value) {
     const isExact = typeof value === 'bigint' || Number.isSafeInteger(value);

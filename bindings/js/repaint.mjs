@@ -4,7 +4,7 @@
 // A viewer that has Unicode tables refuses a text that it would cut otherwise. There are none here,
 // so two cells stand in one text only where that can't be: the sender printed them by one text
 // itself, or both are ASCII, which is always cut into single characters.
-import { VERSION } from './answer.mjs';
+import { encodeAnswerHead } from './answer.mjs';
 import { ARRAY, encodeHead, FALSE, NULL, TEXT, TRUE, UINT } from './reader.mjs';
 import { DEFAULT_ATTRIBUTES } from './screen.mjs';
 
@@ -152,18 +152,17 @@ function* changesOf(screen) {
     if (!cursor.visible) yield [VISIBLE, false];
 }
 
-export function encodeRepaint(screen, { bytes = MOST_BYTES } = {}) {
-    const { surface, width, height, number } = screen;
+export function encodeRepaint(screen, {
+    bytes = MOST_BYTES, surface = screen.surface, number = screen.number,
+} = {}) {
     if (!surface) throw new RangeError('a screen of no surface, which has no repaint');
-    const changes = new Writer(bytes), answer = new Writer(bytes);
+    const changes = new Writer(bytes), answer = new Writer(bytes), { width, height } = screen;
     let count = 0;
     for (const change of changesOf(screen)) {
         changes.item(change);
         count++;
     }
-    answer.put(encodeHead(ARRAY, 7));
-    [VERSION, surface, width, height, 0, number].forEach(value => answer.item(value));
-    answer.put(encodeHead(ARRAY, count));
+    answer.put(encodeAnswerHead({ surface, width, height, base: 0, number, count }));
     answer.put(changes.bytes);
     return answer.bytes;
 }

@@ -1,10 +1,12 @@
 #!/usr/bin/env node
-// serve.mjs [--port N] [--record FILE] [RECORDING] shows a screen in browsers: `sender | serve.mjs`
-// the stream of its input, live, and with a RECORDING that file, with a player. `--record` keeps
-// the stream with its times. It listens on 127.0.0.1 alone.
+// serve.mjs [--port N] [--segment MS] [--record FILE] [RECORDING] shows a screen in browsers:
+// `sender | serve.mjs` the stream of its input, live, and with a RECORDING that file, with a
+// player. `--record` keeps the stream with its times. It listens on 127.0.0.1 alone.
 //
 // There is no surface here to ask. Whoever joins is sent a repaint of what the stream shows, and
-// then each answer as it comes; who is slow gets another repaint instead of much that is old.
+// then each answer as it comes; who is slow gets another repaint instead of much that is old. A
+// live stream is also sent to who asks, and to caches: docs/VIEWER.md, "Over HTTP". `--segment`
+// says how long such a response goes on (1000; 0: one answer).
 //
 // What can't be done is one line on the error output, and status 2. A fault of the stream is a line
 // as soon as it shows, and the last whole screen stays.
@@ -15,11 +17,14 @@ import { pipeline } from 'node:stream/promises';
 import { fileURLToPath } from 'node:url';
 import { parseArgs } from 'node:util';
 import { encodeEntry, readRecording } from './recording.mjs';
+import { Relay } from './relay.mjs';
 import { encodeRepaint } from './repaint.mjs';
 import { Client } from './tikeburo.mjs';
 
-const USAGE = 'usage: serve.mjs [--port N] [--record FILE] [RECORDING]';
+const USAGE = 'usage: serve.mjs [--port N] [--segment MS] [--record FILE] [RECORDING]';
 const PORT = 8002, MOST_PORT = 65535;
+const SEGMENT = 1000, MOST_SEGMENT = 60000; // milliseconds
+const ASK = /^stream\/(0|[1-9]\d{0,19})\/(0|[1-9]\d{0,19})$/; // one spelling, for caches
 const AT_ONCE = 65536;
 const KINDS = { html: 'text/html; charset=utf-8', css: 'text/css', mjs: 'text/javascript' };
 const FILES = ['index.html', 'page.css', 'page.mjs', 'answer.mjs', 'element.mjs', 'grid.mjs',
@@ -32,6 +37,8 @@ const HEADERS = {
     'x-content-type-options': 'nosniff',
 };
 const STREAM = { ...HEADERS, 'content-type': 'application/cbor-seq' };
+// Pages of other origins don't read it, since its address has no secret.
+const CACHED = { ...STREAM, 'cache-control': 'public, max-age=1, stale-while-revalidate=0' };
 const REASONS = {
     EACCES: 'not allowed', EADDRINUSE: 'another program listens there', EISDIR: 'a folder',
     ENOENT: 'no such file or folder', ENOSPC: 'no space is left',
@@ -62,10 +69,11 @@ export class Kept {
     #damage = null; // the bytes that show the fault, where no more come
     #repaint = null; // of what is shown, once a viewer needs it
     #waiting = [];
-    #client = new Client({ onanswer: () => this.#take(), onstale: () => this.#take() });
+    #client = new Client({ onanswer: () => this.#take(true), onstale: () => this.#take(false) });
 
-    constructor({ onfault = null } = {}) {
+    constructor({ onfault = null, segment = SEGMENT } = {}) {
         this.onfault = onfault;
+        this.relay = new Relay({ segment });
     }
 
     /** Takes the stream's next bytes, cut anywhere. What is behind a fault is left out. */
@@ -85,16 +93,18 @@ export class Kept {
         this.isOver = true;
         const fault = this.#client.end();
         if (fault) this.onfault?.(fault);
+        this.relay.end();
         this.#wake();
     }
 
     /** Keeps an answer that is whole, and as many before it as are worth sending. */
-    #take() {
+    #take(isShown) {
         const bytes = this.#parts.length > 1 ? Buffer.concat(this.#parts) : this.#parts[0];
         const length = bytes.length - this.#client.pending;
         this.#parts = length < bytes.length ? [bytes.subarray(length)] : [];
         this.#repaint = null;
         this.#answers.push(bytes.subarray(0, length));
+        if (isShown) this.relay.put(this.#answers.at(-1), this.#client.screen);
         this.#size += length;
         for (; this.#size > this.#most; this.#first++) this.#size -= this.#answers.shift().length;
         this.#wake();
@@ -160,13 +170,27 @@ const drained = response => new Promise(done => {
     response.on('drain', go).on('close', go);
 });
 
-async function sendStream(response, kept) {
-    response.writeHead(200, STREAM);
-    for await (const bytes of kept.follow()) {
+/** Sends parts as they come, and waits where the viewer is slow. */
+async function sendParts(response, parts) {
+    for await (const bytes of parts) {
         if (response.destroyed) return;
         if (!response.write(bytes)) await drained(response);
     }
     response.end();
+}
+
+function sendStream(response, kept) {
+    response.writeHead(200, STREAM);
+    return sendParts(response, kept.follow());
+}
+
+/** Sends what a viewer lacks, once there is something. */
+async function sendAnswers(response, { relay }, ask) {
+    const parts = relay.follow(...ask.map(BigInt));
+    const { value, done } = await parts.next();
+    response.writeHead(done ? 410 : 200, CACHED);
+    if (!done) response.write(value);
+    return sendParts(response, parts);
 }
 
 async function sendRecording(response, file) {
@@ -183,29 +207,46 @@ async function sendRecording(response, file) {
 }
 
 /** Only pages of this server read it: another name for 127.0.0.1 isn't answered. */
-export function answer(request, response, source, port) {
+export async function answer(request, response, source, port) {
     const path = request.url.split('?')[0], name = path === '/' ? 'index.html' : path.slice(1);
     const isOwn = [`127.0.0.1:${port}`, `localhost:${port}`].includes(request.headers.host);
     if (request.method === 'GET' && isOwn) {
         if (FILES.includes(name)) return sendFile(response, name);
-        const send = typeof source === 'string' ? sendRecording : sendStream;
-        if (name === 'stream') return send(response, source);
+        const isRecording = typeof source === 'string', [, ...ask] = ASK.exec(name) ?? [];
+        if (name === 'stream') return (isRecording ? sendRecording : sendStream)(response, source);
+        if (ask.length && !isRecording) return sendAnswers(response, source, ask);
     }
     response.writeHead(isOwn ? 404 : 403, HEADERS);
     return response.end();
 }
 
+/** Answers a request that can't be answered otherwise, as where a repaint is too long. */
+function fail(response, error) {
+    say(error.message);
+    if (response.headersSent) response.destroy();
+    else response.writeHead(503, HEADERS).end();
+}
+
 export async function serve({ port = PORT, source }) {
-    const server = createServer((request, response) =>
-        answer(request, response, source, server.address().port));
+    const server = createServer((request, response) => {
+        const { port: own } = server.address();
+        return answer(request, response, source, own).catch(error => fail(response, error));
+    });
     server.listen(port, '127.0.0.1');
     await once(server, 'listening');
     return server;
 }
 
+/** The number that an option's word is. */
+function numberOf(name, word, most, what) {
+    if (/^\d{1,5}$/.test(word) && word <= most) return Number(word);
+    throw new Refusal(`--${name} ${word}: ${what} from 0 to ${most}`);
+}
+
 function optionsOf(args) {
     const options = {
-        port: { type: 'string' }, record: { type: 'string' }, help: { type: 'boolean', short: 'h' },
+        port: { type: 'string' }, segment: { type: 'string' }, record: { type: 'string' },
+        help: { type: 'boolean', short: 'h' },
     };
     let parsed;
     try {
@@ -213,14 +254,13 @@ function optionsOf(args) {
     } catch {
         throw new Refusal(USAGE);
     }
-    const { values: { port = String(PORT), record, help }, positionals: [file, ...more] } = parsed;
+    const { values, positionals: [file, ...more] } = parsed, { record, help } = values;
     if (help) return { help };
-    if (!/^\d{1,5}$/.test(port) || port > MOST_PORT) {
-        throw new Refusal(`--port ${port}: a port is a number from 0 to ${MOST_PORT}`);
-    }
+    const port = numberOf('port', values.port ?? PORT, MOST_PORT, 'a port is a number');
+    const segment = numberOf('segment', values.segment ?? SEGMENT, MOST_SEGMENT, 'milliseconds');
     if (more.length) throw new Refusal(USAGE);
     if (file && record) throw new Refusal('--record keeps the stream of the input, and no file');
-    return { port: Number(port), record, file };
+    return { port, segment, record, file };
 }
 
 /** Refuses a file of which nothing can be played. Of a damaged one the beginning is played. */
@@ -244,10 +284,10 @@ function openRecord(file) {
     return recorder;
 }
 
-async function start({ port, record, file }) {
+async function start({ port, segment, record, file }) {
     if (file) checkRecording(file);
     const onfault = fault => console.error(`answer ${fault.answer}: ${fault.message}`);
-    const source = file ?? new Kept({ onfault });
+    const source = file ?? new Kept({ onfault, segment });
     const server = await serve({ port, source }).catch(error => {
         throw new Refusal(`port ${port}: ${reasonOf(error)}`);
     });

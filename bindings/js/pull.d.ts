@@ -1,6 +1,6 @@
 import type { Client } from './tikeburo.js';
 
-/** Why no answers come, in words that say who has stopped: the server, the way to it, or this end. */
+/** Why no answers come, in words that say who has stopped: the server, or the way to it. */
 export class Stopped extends Error {}
 
 export interface PullOptions {
@@ -19,7 +19,7 @@ export interface PullOptions {
 
 /** How a screen came to its end. */
 export interface End {
-    /** `ended`: the program has (410). `gone`: the server has no such screen, or no longer (404). */
+    /** `ended`: the program has (410). `gone`: there is no such screen, or no longer (404). */
     readonly state: 'ended' | 'gone';
     /** The program's exit status, where the server says it. */
     readonly exit: number | null;

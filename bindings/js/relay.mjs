@@ -8,7 +8,7 @@ import { encodeRepaint } from './repaint.mjs';
 
 const TICK = 33; // milliseconds: viewers get something new that often at most,
 const BEAT = 15000; // and that often at least
-const NO_CHANGES = { count: 0, bytes: [] };
+const NO_CHANGES = { count: 0, bytes: new Uint8Array() };
 
 export class Relay {
     source = randomBytes(8).readBigUInt64BE() || 1n;
@@ -23,7 +23,7 @@ export class Relay {
     #tick = null; // a timer
     #beat = null;
 
-    /** A response goes on until the time is a multiple of `segment` milliseconds, where it is any. */
+    /** A response goes on until a multiple of `segment` milliseconds; 0: it has one answer. */
     constructor({ segment }) {
         this.segment = segment;
     }

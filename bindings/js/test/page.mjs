@@ -467,7 +467,7 @@ class Asked {
     #match() {
         while (this.#answers.length && this.#waiting.length) {
             const [next, headers] = this.#answers.shift(), response = this.#waiting.shift();
-            // Of a 410 that doesn't say how long it holds, a browser believes that it does for ever.
+            // A 410 that doesn't say how long it holds is kept by a browser for ever.
             headers['cache-control'] ??= 'no-store';
             response.writeHead(typeof next === 'number' ? next : 200, headers);
             response.end(typeof next === 'number' ? '' : next);

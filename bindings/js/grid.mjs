@@ -110,7 +110,8 @@ export class Grid {
         if (mode === 'both') {
             cell = Math.min(cell, view.clientHeight / height / LINE_HEIGHT * ratio);
         }
-        this.#cell = Math.max(-snapped(-least * ratio), snapped(cell * zoom));
+        const smallest = -snapped(-least * ratio);
+        this.#cell = Math.max(smallest, snapped(Math.max(smallest, cell) * zoom));
         const font = this.#cell / ratio;
         this.#row = Math.max(1, snapped(font * LINE_HEIGHT));
         const css = `width:${width * this.#cell}px;height:${height * this.#row}px;`

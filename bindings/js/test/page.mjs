@@ -324,7 +324,11 @@ test('on a phone wide rows are scrolled, by a font that can be read', { skip }, 
             assert.ok(font >= 11 && font < 13, `${font} on ${size}`);
             assert.deepEqual(rest, { begins: true, ends: true, scrolls: true, page: size[0] });
         }
+        await page.evaluate(`${ELEMENT}.setAttribute('zoom', 1.5)`); // of what can be read
+        const { font } = await sizes(...size, dots);
+        assert.ok(font >= 16 && font < 18, `${font} on ${size}`);
     }
+    await page.evaluate(`${ELEMENT}.setAttribute('zoom', 1)`);
     await page.evaluate(`${ELEMENT}.setAttribute('fit', 'width')`);
     assert.ok((await sizes(360, 640)).font >= 11);
     await page.evaluate(`${ELEMENT}.style.fontSize = '8px'`); // the page asks for it

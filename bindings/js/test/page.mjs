@@ -468,6 +468,11 @@ class Asked {
         this.#match();
     }
 
+    /** Waits until so many asks have come. */
+    async until(count) {
+        while (this.asks.length < count) await pause(10);
+    }
+
     #match() {
         while (this.#answers.length && this.#waiting.length) {
             const [next, headers] = this.#answers.shift(), response = this.#waiting.shift();
@@ -530,6 +535,49 @@ test('a source that takes asks says how it ends', { skip }, async () => {
     }
     await pause(500);
     assert.deepEqual(source.asks, Array(5).fill(['0/0', '9/1']).flat()); // and nothing more
+});
+
+test("a page that isn't seen asks for nothing", { skip }, async () => {
+    const source = new Asked(), page = await browser.open(await source.start(), 800, 600);
+    source.put(repaint(1, [2, 'one']));
+    await page.until(`customElements.get('tikeburo-screen') && ${numberIs(1)}`);
+    await source.until(2);
+    await browser.send('Target.createTarget', { url: 'about:blank' });
+    await page.until("document.visibilityState === 'hidden'");
+    source.put(repaint(2, [2, 'two'])); // to what was asked before
+    await pause(500);
+    assert.deepEqual(source.asks, ['0/0', '9/1']);
+    await page.send('Page.bringToFront');
+    source.put(repaint(7, [2, 'seven']));
+    await page.until(numberIs(7));
+    assert.deepEqual(source.asks.slice(0, 3), ['0/0', '9/1', '9/2']);
+});
+
+/** The address of a page of one's own, without a policy, that shows what is at another one. */
+async function ownPage(src) {
+    const text = '<!doctype html><script type="module" src="element.mjs"></script>'
+        + `<tikeburo-screen pull src="${src}"></tikeburo-screen>`;
+    const server = createServer((request, response) => {
+        if (request.url !== '/') return answer(request, response, null, server.address().port);
+        return response.writeHead(200, { 'content-type': 'text/html' }).end(text);
+    });
+    servers.push(server);
+    server.listen(0, '127.0.0.1');
+    await once(server, 'listening');
+    return `http://127.0.0.1:${server.address().port}/`;
+}
+
+test('a page of another origin shows the screen, and how it ended', { skip }, async () => {
+    const source = new Asked(), { origin } = new URL(await source.start());
+    const open = { 'access-control-allow-origin': '*' };
+    source.put(repaint(1, [2, 'one']), { ...open });
+    source.put(sequence([2, 9, 20, 4, 1, 2, [[2, ' two']]]), { ...open });
+    const page = await browser.open(await ownPage(`${origin}/stream`), 800, 600);
+    await page.until(`customElements.get('tikeburo-screen') && ${numberIs(2)}`);
+    source.put(410, { ...open, 'access-control-expose-headers': 'exit-status', 'exit-status': '7' });
+    await says(page, 'ended', 'the program has ended, with status 7');
+    assert.deepEqual(source.last, ['GET', undefined, undefined]); // and no `OPTIONS` before it
+    assert.deepEqual(source.asks, ['0/0', '9/1', '9/2']);
 });
 
 test('screenshots of the demo', { skip: skip || !process.env.SHOTS }, async () => {

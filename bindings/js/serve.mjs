@@ -1,12 +1,11 @@
 #!/usr/bin/env node
-// serve.mjs [--port N] [--segment MS] [--record FILE] [RECORDING] shows a screen in browsers:
-// `sender | serve.mjs` the stream of its input, live, and with a RECORDING that file, with a
-// player. `--record` keeps the stream with its times. It listens on 127.0.0.1 alone.
+// serve.mjs [--port N] [--record FILE] [RECORDING] shows a screen in browsers: `sender | serve.mjs`
+// the stream of its input, live, and with a RECORDING that file, with a player. `--record` keeps
+// the stream with its times. It listens on 127.0.0.1 alone.
 //
 // There is no surface here to ask. Whoever joins is sent a repaint of what the stream shows, and
 // then each answer as it comes; who is slow gets another repaint instead of much that is old. A
-// live stream is also sent to who asks, and to caches: docs/VIEWER.md, "Over HTTP". `--segment`
-// says how long such a response goes on (1000; 0: one answer).
+// live stream is also sent to who asks, and to caches: docs/VIEWER.md, "Over HTTP".
 //
 // What can't be done is one line on the error output, and status 2. A fault of the stream is a line
 // as soon as it shows, and the last whole screen stays.
@@ -21,9 +20,9 @@ import { Relay } from './relay.mjs';
 import { encodeRepaint } from './repaint.mjs';
 import { Client } from './tikeburo.mjs';
 
-const USAGE = 'usage: serve.mjs [--port N] [--segment MS] [--record FILE] [RECORDING]';
+const USAGE = 'usage: serve.mjs [--port N] [--record FILE] [RECORDING]';
 const PORT = 8002, MOST_PORT = 65535;
-const SEGMENT = 1000, MOST_SEGMENT = 60000; // milliseconds
+const SEGMENT = 1000; // milliseconds
 const ASK = /^stream\/(0|[1-9]\d{0,19})\/(0|[1-9]\d{0,19})$/; // one spelling, for caches
 const AT_ONCE = 65536;
 const KINDS = { html: 'text/html; charset=utf-8', css: 'text/css', mjs: 'text/javascript' };
@@ -184,12 +183,17 @@ function sendStream(response, kept) {
     return sendParts(response, kept.follow());
 }
 
-/** Sends what a viewer lacks, once there is something. */
+/**
+ * Sends what a viewer lacks, once there is something. To HTTP/1.0, which only by a length knows a
+ * response that is cut, it is one answer.
+ */
 async function sendAnswers(response, { relay }, ask) {
-    const parts = relay.follow(...ask.map(BigInt));
-    const { value, done } = await parts.next();
-    response.writeHead(done ? 410 : 200, CACHED);
-    if (!done) response.write(value);
+    const parts = relay.follow(...ask.map(BigInt)), { value = '', done } = await parts.next();
+    const isWhole = done || response.req.httpVersion === '1.0';
+    const length = isWhole ? { 'content-length': value.length } : {};
+    response.writeHead(done ? 410 : 200, { ...CACHED, ...length });
+    if (isWhole) return response.end(value);
+    response.write(value);
     return sendParts(response, parts);
 }
 
@@ -237,16 +241,9 @@ export async function serve({ port = PORT, source }) {
     return server;
 }
 
-/** The number that an option's word is. */
-function numberOf(name, word, most, what) {
-    if (/^\d{1,5}$/.test(word) && word <= most) return Number(word);
-    throw new Refusal(`--${name} ${word}: ${what} from 0 to ${most}`);
-}
-
 function optionsOf(args) {
     const options = {
-        port: { type: 'string' }, segment: { type: 'string' }, record: { type: 'string' },
-        help: { type: 'boolean', short: 'h' },
+        port: { type: 'string' }, record: { type: 'string' }, help: { type: 'boolean', short: 'h' },
     };
     let parsed;
     try {
@@ -254,13 +251,14 @@ function optionsOf(args) {
     } catch {
         throw new Refusal(USAGE);
     }
-    const { values, positionals: [file, ...more] } = parsed, { record, help } = values;
+    const { values: { port = String(PORT), record, help }, positionals: [file, ...more] } = parsed;
     if (help) return { help };
-    const port = numberOf('port', values.port ?? PORT, MOST_PORT, 'a port is a number');
-    const segment = numberOf('segment', values.segment ?? SEGMENT, MOST_SEGMENT, 'milliseconds');
+    if (!/^\d{1,5}$/.test(port) || port > MOST_PORT) {
+        throw new Refusal(`--port ${port}: a port is a number from 0 to ${MOST_PORT}`);
+    }
     if (more.length) throw new Refusal(USAGE);
     if (file && record) throw new Refusal('--record keeps the stream of the input, and no file');
-    return { port, segment, record, file };
+    return { port: Number(port), record, file };
 }
 
 /** Refuses a file of which nothing can be played. Of a damaged one the beginning is played. */
@@ -284,10 +282,10 @@ function openRecord(file) {
     return recorder;
 }
 
-async function start({ port, segment, record, file }) {
+async function start({ port, record, file }) {
     if (file) checkRecording(file);
     const onfault = fault => console.error(`answer ${fault.answer}: ${fault.message}`);
-    const source = file ?? new Kept({ onfault, segment });
+    const source = file ?? new Kept({ onfault });
     const server = await serve({ port, source }).catch(error => {
         throw new Refusal(`port ${port}: ${reasonOf(error)}`);
     });

@@ -67,16 +67,16 @@ async function freePorts(count) {
     return ports;
 }
 
-// What runs a cache by a configuration in a folder, and how long a response goes on with it.
+// What runs a cache by a configuration in a folder.
 const ENGINES = {
     varnish: {
-        program: 'varnishd', version: '-V', file: 'edge.vcl', segment: 1000,
+        program: 'varnishd', version: '-V', file: 'edge.vcl',
         words: (path, dir, port) => ['-F', '-f', path, '-a', `127.0.0.1:${port}`, '-n', `${dir}/n`,
             '-s', 'malloc,16m', '-p', 'http_gzip_support=off', '-p', 'thread_pool_min=20',
             '-j', 'none'],
     },
     nginx: {
-        program: 'nginx', version: '-v', file: 'nginx.conf', segment: 0,
+        program: 'nginx', version: '-v', file: 'nginx.conf',
         words: (path, dir) => ['-c', path, '-e', `${dir}/error.log`],
     },
 };
@@ -96,10 +96,9 @@ class Origin {
     client = new Client();
     #number = 0;
 
-    constructor(port, segment, source) {
+    constructor(port, source) {
         this.source = source;
-        this.server = start(process.execPath, pathOf('../serve.mjs'), '--port', String(port),
-            '--segment', String(segment));
+        this.server = start(process.execPath, pathOf('../serve.mjs'), '--port', String(port));
     }
 
     /** Sends a screen, and then changes, until the call that is returned. */
@@ -177,7 +176,7 @@ async function judge(engine) {
     const [port, middle, ...edges] = await freePorts(4);
     startCache(engine, middle, port);
     const caches = edges.map(edge => startCache(engine, edge, middle));
-    const first = new Origin(port, engine.segment, 5);
+    const first = new Origin(port, 5);
     await Promise.all([port, middle, ...edges].map(answers));
     const stopPlaying = first.play();
     const views = Object.keys(KINDS).flatMap(kind =>
@@ -187,7 +186,7 @@ async function judge(engine) {
     stopPlaying();
     await stop(first.server, 'SIGKILL');
     await pause(500);
-    const second = new Origin(port, engine.segment, 6);
+    const second = new Origin(port, 6);
     await answers(port);
     const stopPlayingOn = second.play();
     await haveSeen(views, 2);

@@ -2,6 +2,7 @@
 import assert from 'node:assert/strict';
 import { once, setMaxListeners } from 'node:events';
 import { createServer } from 'node:http';
+import { connect } from 'node:net';
 import test, { after } from 'node:test';
 import { pull, Stopped } from '../pull.mjs';
 import { Kept, serve } from '../serve.mjs';
@@ -295,6 +296,33 @@ test('a response is the same for all who ask the same', { timeout: 60000 }, asyn
     for (const wrong of ['00/0', '1/', '1/01', '1/2/3', '1/-1', '1/0x1', 'a/b']) {
         assert.equal((await fetch(`${base}/${wrong}`)).status, 404, wrong);
     }
+});
+
+/** What comes back for these bytes, up to the end of the connection. */
+async function sendRaw(port, text) {
+    const socket = connect(port, '127.0.0.1').end(text), parts = [];
+    for await (const part of socket) parts.push(part);
+    return Buffer.concat(parts);
+}
+
+test('a request of HTTP/1.0 gets one answer, with its length', { timeout: 60000 }, async () => {
+    const live = await new Live().start(), { port } = live.server.address();
+    live.put();
+    const ask = path => sendRaw(port,
+        `GET /stream/${path} HTTP/1.0\r\nhost: 127.0.0.1:${port}\r\n\r\n`);
+    const lengthOf = head => Number(/\r\ncontent-length: (\d+)\r\n/i.exec(head)?.[1]);
+    const response = await ask('0/0'), end = response.indexOf('\r\n\r\n');
+    const head = response.toString('latin1', 0, end + 2), body = response.subarray(end + 4);
+    assert.match(head, /^HTTP\/1.1 200 /);
+    assert.equal(lengthOf(head), body.length);
+    const client = new Client();
+    client.feed(body);
+    assert.deepEqual([client.end(), client.answers], [null, 1]);
+    assert.deepEqual(pictureOf(client), pictureOf(live.client));
+    live.kept.end();
+    const last = String(await ask(`${live.kept.relay.source}/1`));
+    assert.match(last, /^HTTP\/1.1 410 /);
+    assert.equal(lengthOf(last), 0);
 });
 
 test('a still screen has a beat, which changes nothing', { timeout: 60000 }, async () => {

@@ -241,7 +241,7 @@ test("serve.mjs refuses in one line what it can't do", async () => {
         writeFileSync(join(folder, name), bytes);
         return join(folder, name);
     };
-    const usage = 'usage: serve.mjs [--port N] [--segment MS] [--record FILE] [RECORDING]\n';
+    const usage = 'usage: serve.mjs [--port N] [--record FILE] [RECORDING]\n';
     for (const words of [['--help'], ['-h'], ['-h', '--port', 'abc', 'missing']]) {
         assert.deepEqual(refused(...words), [usage, '', 0]);
     }
@@ -254,7 +254,6 @@ test("serve.mjs refuses in one line what it can't do", async () => {
         says(`--port ${port}: a port is a number from 0 to 65535`, '--port', port);
     }
     says('--port -1: a port is a number from 0 to 65535', '--port=-1');
-    says('--segment 1s: milliseconds from 0 to 60000', '--segment', '1s');
     const busy = createServer().listen(0, '127.0.0.1');
     await once(busy, 'listening');
     const { port } = busy.address();

@@ -189,7 +189,7 @@ export class TikeburoScreen extends HTMLElement {
             if (!kept.length && bytes[0] === ENTRY) plays = true;
             if (plays) kept.push(bytes);
             else client.feed(bytes);
-            if (client.fault) reader.cancel();
+            if (client.fault) reader.cancel().catch(() => {}); // it may be lost already
         }
         if (plays) this.#open(new Uint8Array(await new Blob(kept).arrayBuffer()));
         else if (client.end()) throw client.fault;

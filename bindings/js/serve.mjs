@@ -184,8 +184,8 @@ function sendStream(response, kept) {
 }
 
 /**
- * Sends what a viewer lacks, once there is something. To HTTP/1.0, which only by a length knows a
- * response that is cut, it is one answer.
+ * Sends what a viewer lacks, once there is something. HTTP/1.0, which knows a cut response by its
+ * length alone, gets what there is, and nothing that comes later.
  */
 async function sendAnswers(response, { relay }, ask) {
     const parts = relay.follow(...ask.map(BigInt)), { value = '', done } = await parts.next();

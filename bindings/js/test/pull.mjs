@@ -300,7 +300,8 @@ test('a response is the same for all who ask the same', { timeout: 60000 }, asyn
 
 /** What comes back for these bytes, up to the end of the connection. */
 async function sendRaw(port, text) {
-    const socket = connect(port, '127.0.0.1').end(text), parts = [];
+    const socket = connect(port, '127.0.0.1'), parts = [];
+    socket.write(text);
     for await (const part of socket) parts.push(part);
     return Buffer.concat(parts);
 }

@@ -24,7 +24,7 @@ const LONGEST = 80000; // milliseconds
 const env = { ...process.env, PATH: `${process.env.PATH}:/usr/sbin:/usr/local/sbin` };
 const pathOf = name => fileURLToPath(new URL(name, import.meta.url));
 const pause = milliseconds => new Promise(done => setTimeout(done, milliseconds));
-const random = randomFrom(Date.now());
+const random = randomFrom(73);
 const folder = mkdtempSync(join(tmpdir(), 'tikeburo-engines-'));
 const children = new Set(), over = new AbortController();
 chmodSync(folder, 0o755);
@@ -32,7 +32,7 @@ setMaxListeners(0, over.signal);
 
 after(async () => {
     over.abort();
-    await Promise.all([...children].map(child => stop(child)));
+    await Promise.all([...children].map(child => stop({ child })));
     rmSync(folder, { recursive: true, force: true });
 });
 
@@ -44,16 +44,16 @@ function start(command, ...words) {
     return child;
 }
 
-async function stop(child, signal = 'SIGTERM') {
+async function stop({ child }, signal = 'SIGTERM') {
     child.kill(signal);
     await child.ended;
 }
 
-/** Waits until a program answers at a port, whatever it says. */
-async function answers(port) {
-    const ask = () => fetch(`http://127.0.0.1:${port}/`, { signal: over.signal });
+/** Waits until a program answers at its port, whatever it says. */
+async function answers({ child, port }) {
     for (let response = null; !response && !over.signal.aborted; await pause(50)) {
-        response = await ask().catch(() => null);
+        assert.ok(children.has(child), `${child.spawnargs.join(' ')} has ended`);
+        response = await fetch(`http://127.0.0.1:${port}/`).catch(() => null);
         await response?.body?.cancel();
     }
 }
@@ -88,7 +88,7 @@ function startCache({ program, file, words }, port, next) {
     const values = { DIR: dir, WORKERS: 1, PORT: port, NEXT: next };
     const text = readFileSync(pathOf(`../../share/engines/${file}`), 'utf8');
     writeFileSync(path, text.replace(/@([A-Z]+)@/g, (_, name) => values[name]));
-    return start(program, ...words(path, dir, port));
+    return { port, child: start(program, ...words(path, dir, port)) };
 }
 
 /** A server, and the sender of what it shows: another source each time. */
@@ -97,8 +97,8 @@ class Origin {
     #number = 0;
 
     constructor(port, source) {
-        this.source = source;
-        this.server = start(process.execPath, pathOf('../serve.mjs'), '--port', String(port));
+        Object.assign(this, { port, source });
+        this.child = start(process.execPath, pathOf('../serve.mjs'), '--port', String(port));
     }
 
     /** Sends a screen, and then changes, until the call that is returned. */
@@ -112,7 +112,7 @@ class Origin {
         const base = this.#number++;
         const answer = sequence([2, this.source, ...SIZE, base, this.#number, changes]);
         this.client.feed(answer);
-        this.server.stdin.write(answer);
+        this.child.stdin.write(answer);
     }
 }
 
@@ -174,28 +174,26 @@ const pictureOf = ({ screen }) => ({ ...contentsOf(screen), surface: null, numbe
 
 async function judge(engine) {
     const [port, middle, ...edges] = await freePorts(4);
-    startCache(engine, middle, port);
+    const between = startCache(engine, middle, port), first = new Origin(port, 5);
     const caches = edges.map(edge => startCache(engine, edge, middle));
-    const first = new Origin(port, 5);
-    await Promise.all([port, middle, ...edges].map(answers));
+    await Promise.all([first, between, ...caches].map(answers));
     const stopPlaying = first.play();
     const views = Object.keys(KINDS).flatMap(kind =>
         Array.from({ length: EACH }, () => view(kind, edges)));
     await haveSeen(views, 1);
     await pause(2000);
     stopPlaying();
-    await stop(first.server, 'SIGKILL');
+    await stop(first, 'SIGKILL');
     await pause(500);
     const second = new Origin(port, 6);
-    await answers(port);
+    await answers(second);
     const stopPlayingOn = second.play();
     await haveSeen(views, 2);
     await stop(caches[0]); // what it kept is lost
-    startCache(engine, edges[0], middle);
-    await answers(edges[0]);
+    await answers(startCache(engine, edges[0], middle));
     await pause(2000);
     stopPlayingOn();
-    second.server.stdin.end();
+    second.child.stdin.end();
     const wanted = pictureOf(second.client);
     for (const { kind, client, end } of views) {
         assert.deepEqual(await end, { state: 'ended', exit: null }, kind);

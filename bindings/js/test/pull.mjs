@@ -298,6 +298,24 @@ test('a response is the same for all who ask the same', { timeout: 60000 }, asyn
     }
 });
 
+test('who lacks too much gets a repaint', { timeout: 60000 }, async () => {
+    const live = await new Live({ segment: 0 }).start(), { kept, base } = live;
+    live.put();
+    for (let k = 0; k < 200; k++) live.put();
+    await pause(100); // a tick
+    const { source } = kept.relay;
+    const headOf = async number => {
+        const response = await fetch(`${base}/${source}/${number}`);
+        return decode(Buffer.from(await response.arrayBuffer())).slice(4, 6);
+    };
+    assert.deepEqual(await headOf(200), [200n, 201n]);
+    assert.deepEqual(await headOf(1), [0n, 201n]);
+    assert.deepEqual(await headOf(999), [0n, 201n]); // which nobody was given
+    kept.relay.follow = async function* follow() { throw new RangeError('too long'); };
+    const { status, headers } = await fetch(`${base}/0/0`);
+    assert.deepEqual([status, headers.get('cache-control')], [503, 'no-store']);
+});
+
 /** What comes back for these bytes, up to the end of the connection. */
 async function sendRaw(port, text) {
     const socket = connect(port, '127.0.0.1'), parts = [];

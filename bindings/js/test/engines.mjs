@@ -20,7 +20,7 @@ import { allowed } from './work.mjs';
 
 const SIZE = [60, 16], FRAME = 100; // milliseconds between the sender's answers
 const EACH = 4; // viewers of each kind
-const LONGEST = 80000; // milliseconds
+const LONGEST = 170000; // milliseconds, on a machine that is busy
 const env = { ...process.env, PATH: `${process.env.PATH}:/usr/sbin:/usr/local/sbin` };
 const pathOf = name => fileURLToPath(new URL(name, import.meta.url));
 const pause = milliseconds => new Promise(done => setTimeout(done, milliseconds));

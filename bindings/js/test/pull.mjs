@@ -88,7 +88,7 @@ test('asks are taken apart and made', () => {
     }
 });
 
-test('a viewer asks by what it shows, and takes what comes', { timeout: 60000 }, async () => {
+test('a viewer asks by what it shows, and takes what comes', { timeout: 120000 }, async () => {
     const client = new Client(), seen = [];
     client.onanswer = () => seen.push(shown(client));
     const inParts = async response => {
@@ -109,7 +109,7 @@ test('a viewer asks by what it shows, and takes what comes', { timeout: 60000 },
     assert.deepEqual(asks(), ['0/0', '9/5', '9/6', '9/8', '9/9'].map(query));
 });
 
-test('how a screen ended', { timeout: 60000 }, async () => {
+test('how a screen ended', { timeout: 120000 }, async () => {
     const ends = async (status, headers) => {
         const { base } = await script(response => response.writeHead(status, headers).end());
         return follow(new Client(), new URL(base));
@@ -120,7 +120,7 @@ test('how a screen ended', { timeout: 60000 }, async () => {
     assert.deepEqual(await ends(410, { 'exit-status': 'none' }), { state: 'ended', exit: null });
 });
 
-test('cut, damaged and other responses', { timeout: 60000 }, async () => {
+test('cut, damaged and other responses', { timeout: 120000 }, async () => {
     const client = new Client(), problems = [];
     const cut = response => {
         response.writeHead(200, { 'content-length': 1000 });
@@ -144,7 +144,7 @@ test('cut, damaged and other responses', { timeout: 60000 }, async () => {
     ]);
 });
 
-test('what comes again ends it, and so does a signal', { timeout: 60000 }, async () => {
+test('what comes again ends it, and so does a signal', { timeout: 120000 }, async () => {
     const { base } = await script(Uint8Array.from([0x87, 3]));
     await assert.rejects(follow(new Client(), base), { name: 'Fault', kind: 'version' });
     const large = await script(repaint(1, 'a'));
@@ -164,7 +164,7 @@ test('what comes again ends it, and so does a signal', { timeout: 60000 }, async
     assert.equal(slow.times.length, 1);
 });
 
-test('who gets nothing new waits longer each time', { timeout: 60000 }, async () => {
+test('who gets nothing new waits longer each time', { timeout: 120000 }, async () => {
     const { base, times } = await script(repaint(5, 'a'), 204, repaint(5, 'a'), delta(4, 'x'),
         delta(5, 'b'), 410);
     await follow(new Client(), base);
@@ -174,7 +174,7 @@ test('who gets nothing new waits longer each time', { timeout: 60000 }, async ()
     assert.ok(waits[3] >= 395, waits);
 });
 
-test('a response in which nothing comes is given up', { timeout: 60000 }, async () => {
+test('a response in which nothing comes is given up', { timeout: 120000 }, async () => {
     const problems = [];
     await hasten(45000, async () => {
         const { base, asks } = await script(repaint(5, 'a'), () => {},
@@ -185,7 +185,7 @@ test('a response in which nothing comes is given up', { timeout: 60000 }, async 
     });
 });
 
-test('a viewer finds a server again that was replaced', { timeout: 60000 }, async () => {
+test('a viewer finds a server again that was replaced', { timeout: 120000 }, async () => {
     const client = new Client(), problems = [];
     const { base } = await script(repaint(5, 'a'), () => {});
     const pulled = follow(client, base, { onproblem: problem => problems.push(problem) });
@@ -238,7 +238,7 @@ class Live {
 
 const pictureOf = ({ screen }) => ({ ...contentsOf(screen), surface: null, number: null });
 
-test('viewers who ask at any time come to show the last screen', { timeout: 60000 }, async () => {
+test('viewers who ask at any time come to show the last screen', { timeout: 120000 }, async () => {
     const live = await new Live({ segment: 200 }).start(), random = randomFrom(72), viewers = [];
     for (let k = 0; k < 120; k++) {
         live.put(k % 40 === 39);
@@ -257,7 +257,7 @@ test('viewers who ask at any time come to show the last screen', { timeout: 6000
     }
 });
 
-test('a response is the same for all who ask the same', { timeout: 60000 }, async () => {
+test('a response is the same for all who ask the same', { timeout: 120000 }, async () => {
     const live = await new Live({ segment: 0 }).start();
     const { base, kept: { relay: { source } } } = live;
     const bytesOf = async path => {
@@ -298,7 +298,7 @@ test('a response is the same for all who ask the same', { timeout: 60000 }, asyn
     }
 });
 
-test('who lacks too much gets a repaint', { timeout: 60000 }, async () => {
+test('who lacks too much gets a repaint', { timeout: 120000 }, async () => {
     const live = await new Live({ segment: 0 }).start(), { kept, base } = live;
     live.put();
     for (let k = 0; k < 200; k++) live.put();
@@ -324,7 +324,7 @@ async function sendRaw(port, text) {
     return Buffer.concat(parts);
 }
 
-test('a request of HTTP/1.0 gets one answer, with its length', { timeout: 60000 }, async () => {
+test('a request of HTTP/1.0 gets one answer, with its length', { timeout: 120000 }, async () => {
     const live = await new Live().start(), { port } = live.server.address();
     live.put();
     const ask = path => sendRaw(port,
@@ -344,7 +344,7 @@ test('a request of HTTP/1.0 gets one answer, with its length', { timeout: 60000 
     assert.equal(lengthOf(last), 0);
 });
 
-test('a still screen has a beat, which changes nothing', { timeout: 60000 }, async () => {
+test('a still screen has a beat, which changes nothing', { timeout: 120000 }, async () => {
     await hasten(15000, async () => {
         const live = await new Live({ segment: 0 }).start(), client = new Client();
         live.put();

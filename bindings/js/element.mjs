@@ -153,7 +153,8 @@ export class TikeburoScreen extends HTMLElement {
         const onproblem = problem => this.#say('lost', explain(problem));
         this.#say('connecting', '');
         try {
-            this.#end(await pull(client, address, { signal, wait, onproblem }));
+            const end = await pull(client, address, { signal, wait, onproblem });
+            if (!signal.aborted) this.#end(end);
         } catch (problem) {
             if (!signal.aborted) onproblem(problem);
         }
@@ -161,20 +162,22 @@ export class TikeburoScreen extends HTMLElement {
 
     /** Shows a stream or a recording, over new connections where one is lost. */
     async #stream(client, address, signal) {
-        for (let wait = FIRST_WAIT, problem = ''; ; wait = Math.min(2 * wait, LONGEST_WAIT)) {
+        let problem = '';
+        for (let wait = FIRST_WAIT; !signal.aborted; wait = Math.min(2 * wait, LONGEST_WAIT)) {
             client.restart();
             this.#say('connecting', problem);
             try {
-                return this.#end(await this.#read(client, address, signal));
+                const end = await this.#read(client, address, signal);
+                if (!signal.aborted) this.#end(end);
+                return;
             } catch (error) {
-                if (signal.aborted) return undefined;
+                if (signal.aborted) return;
                 problem = explain(error);
                 this.#say('lost', problem);
-                if (!isPassing(error)) return undefined;
+                if (!isPassing(error)) return;
             }
             if (client.answers) wait = FIRST_WAIT;
             await pause(wait);
-            if (signal.aborted) return undefined;
         }
     }
 

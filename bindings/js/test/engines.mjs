@@ -68,18 +68,18 @@ async function freePorts(count) {
 }
 
 // What runs a cache by a configuration in a folder.
-const ENGINES = {
-    varnish: {
-        program: 'varnishd', version: '-V', file: 'edge.vcl',
+const ENGINES = [
+    {
+        name: 'Varnish', program: 'varnishd', version: '-V', file: 'edge.vcl',
         words: (path, dir, port) => ['-F', '-f', path, '-a', `127.0.0.1:${port}`, '-n', `${dir}/n`,
             '-s', 'malloc,16m', '-p', 'http_gzip_support=off', '-p', 'thread_pool_min=20',
             '-j', 'none'],
     },
-    nginx: {
-        program: 'nginx', version: '-v', file: 'nginx.conf',
+    {
+        name: 'nginx', program: 'nginx', version: '-v', file: 'nginx.conf',
         words: (path, dir) => ['-c', path, '-e', `${dir}/error.log`],
     },
-};
+];
 
 /** A cache at a port, before what listens at the next one. */
 function startCache({ program, file, words }, port, next) {
@@ -172,8 +172,7 @@ async function haveSeen(views, count) {
 
 const pictureOf = ({ screen }) => ({ ...contentsOf(screen), surface: null, number: null });
 
-async function judge(engine) {
-    const [port, middle, ...edges] = await freePorts(4);
+async function judge(engine, [port, middle, ...edges]) {
     const between = startCache(engine, middle, port), first = new Origin(port, 5);
     const caches = edges.map(edge => startCache(engine, edge, middle));
     await Promise.all([first, between, ...caches].map(answers));
@@ -202,10 +201,15 @@ async function judge(engine) {
     return views.length;
 }
 
-for (const [name, engine] of Object.entries(ENGINES)) {
-    const { error, status } = spawnSync(engine.program, [engine.version], { env, stdio: 'ignore' });
-    const skip = !error && status === 0 ? false : `${engine.program} is not there`;
-    test(`36 viewers with troubles, over ${name}`, { skip, timeout: LONGEST }, async () => {
-        assert.equal(await judge(engine), 36);
-    });
+/** Why an engine is left out, where it is. */
+function lackOf({ program, version }) {
+    const { error, status } = spawnSync(program, [version], { env, stdio: 'ignore' });
+    return !error && status === 0 ? false : `${program} is not there`;
 }
+
+test('viewers with troubles', { concurrency: true, timeout: LONGEST }, async all => {
+    const ports = await freePorts(4 * ENGINES.length);
+    await Promise.all(ENGINES.map((engine, k) => all.test(
+        `36 viewers with troubles, over ${engine.name}`, { skip: lackOf(engine) },
+        async () => assert.equal(await judge(engine, ports.slice(4 * k, 4 * k + 4)), 36))));
+});

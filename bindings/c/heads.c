@@ -1,5 +1,5 @@
-/* What answers say at their heads. It ends with `N checks`, and with status 1 where any of them
- * failed. */
+/* What answers say at their heads, and what asks say. It ends with `N checks`, and with status 1
+ * where any of them failed. */
 #include "checks.h"
 #include "tikeburo.h"
 #include <stdint.h>
@@ -109,9 +109,65 @@ static void test_answers(void) {
     tk_free(&client);
 }
 
+/* Two numbers, and the ask that they make. */
+static const struct {
+    size_t source;
+    size_t number;
+    uint8_t bytes[20];
+    size_t len;
+} ASKS[] = {
+    {0, 0, {0x83, 2, 0, 0}, 4},
+    {7, 0, {0x83, 2, 7, 0}, 4},
+    {23, 24, {0x83, 2, 23, 0x18, 24}, 5},
+    {256, 70000, {0x83, 2, 0x19, 1, 0, 0x1a, 0, 1, 0x11, 0x70}, 10},
+    {SIZE_MAX,
+     SIZE_MAX,
+     {0x83, 2,    0x1b, 255, 255, 255, 255, 255, 255, 255,
+      255,  0x1b, 255,  255, 255, 255, 255, 255, 255, 255},
+     20},
+};
+
+/* Bytes that are no ask, and why. */
+static const struct {
+    uint8_t bytes[8];
+    size_t len;
+    tk_status status;
+} NO_ASKS[] = {
+    {{0}, 0, TK_TRUNCATED},
+    {{0x83, 2, 7}, 3, TK_TRUNCATED},
+    {{0x83, 2, 7, 0x19, 1}, 5, TK_TRUNCATED},
+    {{0x83, 2, 7, 5, 0x83}, 5, TK_UNREADABLE},
+    {{0x83, 1, 7, 5}, 4, TK_UNREADABLE},
+    {{0x83, 2, 0, 5}, 4, TK_UNREADABLE},
+    {{0x83, 2, 7, 0x18, 5}, 5, TK_UNREADABLE},
+    {{0x87, 2, 1, 4, 3, 0, 4, 0x80}, 8, TK_UNREADABLE},
+};
+
+static void test_asks(void) {
+    for (size_t i = 0; i < COUNT(ASKS); i++) {
+        uint8_t bytes[20];
+        size_t len = 99, source = 99, number = 99;
+        CHECK(tk_make_ask(ASKS[i].source, ASKS[i].number, bytes, sizeof bytes, &len) == TK_DONE);
+        CHECK(len == ASKS[i].len && memcmp(bytes, ASKS[i].bytes, len) == 0);
+        CHECK(tk_make_ask(ASKS[i].source, ASKS[i].number, bytes, len - 1, &len) == TK_SHORT);
+        CHECK(len == ASKS[i].len);
+        CHECK(tk_read_ask(bytes, len, &source, &number) == TK_DONE);
+        CHECK(source == ASKS[i].source && number == ASKS[i].number);
+    }
+    for (size_t i = 0; i < COUNT(NO_ASKS); i++) {
+        size_t source = 98, number = 99;
+        tk_status status = tk_read_ask(NO_ASKS[i].bytes, NO_ASKS[i].len, &source, &number);
+        CHECK(status == NO_ASKS[i].status && source == 98 && number == 99);
+    }
+    uint8_t bytes[20] = {0};
+    size_t len = 99;
+    CHECK(tk_make_ask(0, 1, bytes, sizeof bytes, &len) == TK_RANGE && len == 99 && bytes[0] == 0);
+}
+
 int main(void) {
     test_cases();
     test_answers();
+    test_asks();
     printf("%d checks\n", checks);
     return failures != 0;
 }

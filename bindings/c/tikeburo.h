@@ -860,6 +860,15 @@ tk_status tk_client_take_answer(tk_handle *client, tk_taken *taken, tk_fault *fa
 /* Writes what to ask for the next answer, 20 bytes at most. TK_WRONG_KIND, TK_SHORT. */
 tk_status tk_client_ask(tk_handle *client, uint8_t *bytes, size_t room, size_t *len);
 
+/* Writes the ask of whoever shows what this number names of the surface of this number, as
+ * tk_client_ask writes it; of 0 and 0, that of whoever shows nothing. TK_RANGE: there is a number
+ * and no source. TK_SHORT. */
+tk_status tk_make_ask(size_t source, size_t number, uint8_t *bytes, size_t room, size_t *len);
+
+/* Reads the two numbers of an ask, and nothing after it. TK_TRUNCATED: the bytes end before the ask
+ * does. TK_UNREADABLE: they are wrong at a byte, or more follow the ask. */
+tk_status tk_read_ask(const uint8_t *bytes, size_t len, size_t *source, size_t *number);
+
 /* Begins a new stream: drops the bytes that make no whole answer yet. The client shows and
  * asks for what it did before. TK_WRONG_KIND. */
 tk_status tk_client_reset(tk_handle *client);

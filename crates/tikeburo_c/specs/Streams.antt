@@ -23,7 +23,7 @@ use Rattle.tikeburo_c.specs.Widths.{columns_by}
 use Rattle.tikeburo_c.specs.declared.clients.FaultFields.{FaultFields}
 use Rattle.tikeburo_c.specs.declared.clients.TakenFields.{TakenFields}
 use Rattle.tikeburo_c.specs.declared.failure.Failure.{Failure}
-use Rattle.tikeburo_c.specs.declared.failure.Failure.TheVariants.{Memory, NoHandle, Numbers, Short, Unreadable, WrongKind}
+use Rattle.tikeburo_c.specs.declared.failure.Failure.TheVariants.{Memory, NoHandle, Numbers, Range, Short, Unreadable, WrongKind}
 use Rattle.tikeburo_c.specs.declared.kept.Kept.{Kept}
 use Rattle.tikeburo_c.specs.declared.kept.Kept.TheVariants.{Surface, Viewer, Client, Lines}
 use Rattle.tikeburo_c.specs.declared.widths.ChosenWidths.{ChosenWidths}
@@ -207,6 +207,16 @@ named_ask a = if a.source == 0 then record { source = 0; number = 0 } else a
 -- this ask is given
 abbrev pub GivesOne : Ask → Buffer → Outcome → Buffer → Type 0
 GivesOne a old outcome new = IsAsk a × Gives (ask a) old outcome new
+
+-- an ask is given, of which the number has a source
+pub record MakesAsk (a : Ask) (old : Buffer) (outcome : Outcome) (new : Buffer) : Type 0 where
+  pub refused : a.source ≡ 0 → 0 < a.number → Refused Range old outcome new
+  pub given : (a.source ≡ 0 → a.number ≡ 0) → OrNoMemory (GivesOne a) old outcome new
+
+-- the call returned the two numbers of the one ask that the bytes encode, or they are none
+abbrev pub ReadsAsk : List ℕ → ℕ × ℕ → Outcome → ℕ × ℕ → Type 0
+ReadsAsk bytes old (Ok _) (s, n) = IsOnlyAsk bytes (Ok (record { source = s; number = n }))
+ReadsAsk bytes old (Err failure) new = IsOnlyAsk bytes (Err failure) × (new ≡ old)
 
 -- what the client asks by is given
 abbrev pub GivesAsk : Option Kept → Buffer → Outcome → Buffer → Type 0

@@ -3,26 +3,16 @@ ghost use Rattle.std.specs.Prelude.{◌≡◌};
 ghost use Rattle.tikeburo_c.specs.Handles.{kept_of};
 ghost use Rattle.tikeburo_c.specs.Outcomes.{Reports};
 ghost use Rattle.tikeburo_c.specs.Results.{OrNoMemory};
-ghost use Rattle.tikeburo_c.specs.Streams.{AnswersAsk, AnswersBytes, AnswersIn, IsOnlyAsk};
+ghost use Rattle.tikeburo_c.specs.Streams.{AnswersAsk, AnswersBytes, AnswersIn};
 
+use crate::asks::only_ask;
 use crate::failure::{Failure, status};
 use crate::handle::Handle;
 use crate::kept::Kept;
 use crate::widths::ChosenWidths;
 use std::alloc::Global;
 use termwiz_share::Source;
-use termwiz_wire::{Ask, decode_ask};
-
-// The one ask that the bytes encode, with nothing after it.
-fn only_ask(bytes: &[u8]) -> Result<Ask, Failure>
-    ensures { IsOnlyAsk bytes.now result }
-{
-    let (ask, taken) = decode_ask(bytes)?;
-    if taken < bytes.len() {
-        return Err(Failure::Unreadable);
-    }
-    Ok(ask)
-}
+use termwiz_wire::Ask;
 
 // Where the answer is longer than the buffer, it stays kept for the next call.
 fn answer(

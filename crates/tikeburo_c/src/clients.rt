@@ -4,15 +4,14 @@ ghost use Rattle.tikeburo_c.specs.Handles.{kept_of};
 ghost use Rattle.tikeburo_c.specs.Making.{MakesClient, MakesClientBy, blank_client, limited};
 ghost use Rattle.tikeburo_c.specs.Making.{usual_rows, widths_within};
 ghost use Rattle.tikeburo_c.specs.Outcomes.{Reports};
-ghost use Rattle.tikeburo_c.specs.Results.{OnClient, OnClientAnd, OrNoMemory};
-ghost use Rattle.tikeburo_c.specs.Streams.{Fails, FeedsBytes, FeedsIn, GivesAsk, GivesOne};
+ghost use Rattle.tikeburo_c.specs.Results.{OnClient, OnClientAnd};
+ghost use Rattle.tikeburo_c.specs.Streams.{Fails, FeedsBytes, FeedsIn, GivesAsk};
 ghost use Rattle.tikeburo_c.specs.Streams.{KeepsBytes, Resets, TakesOne};
 ghost use Rattle.tikeburo_c.specs.Streams.{fault_number, fields_at, named_ask, taken_fields};
 ghost use Rattle.tikeburo_c.specs.declared.failure.Failure.TheVariants.{Memory};
 ghost use Rattle.tikeburo_c.specs.declared.kept.Kept.TheVariants as kinds;
-ghost use Rattle.termwiz_share.specs.Client.{ask_of};
 
-use crate::buffers::give;
+use crate::asks::give_ask;
 use crate::failure::{Failure, status};
 use crate::handle::Handle;
 use crate::kept::Kept;
@@ -21,7 +20,7 @@ use crate::widths::ChosenWidths;
 use cbor::FaultKind;
 use std::alloc::Global;
 use termwiz_share::{Client, ClientError, Taken};
-use termwiz_wire::{Ask, Limits, encode_ask};
+use termwiz_wire::{Ask, Limits};
 
 /// What is wrong with the bytes of an answer. Where it is in no change, that is 0.
 #[repr(C)]
@@ -321,20 +320,6 @@ fn named_ask(ask: Ask) -> Ask
     }
 }
 
-fn give_ask(
-    alloc: Global,
-    client: &Client<ChosenWidths>,
-    room: &mut [u8],
-    len: &mut usize,
-) -> Result<(), Failure>
-    ensures { OrNoMemory (GivesOne (named_ask (ask_of client.now)))
-        (room.old, len.old) result (room.new, len.new) }
-{
-    let mut bytes = Vec::new(alloc);
-    encode_ask(&mut bytes, named_ask(client.ask()))?;
-    give(&bytes, room, len)
-}
-
 fn give_kept_ask(
     alloc: Global,
     kept: &Kept,
@@ -344,7 +329,7 @@ fn give_kept_ask(
     ensures { GivesAsk (Some kept.now) (room.old, len.old) result (room.new, len.new) }
 {
     match kept {
-        Kept::Client(client) => give_ask(alloc, client, room, len),
+        Kept::Client(client) => give_ask(alloc, named_ask(client.ask()), room, len),
         Kept::Surface(_) | Kept::Viewer(_) | Kept::Lines(_) => Err(Failure::WrongKind),
     }
 }

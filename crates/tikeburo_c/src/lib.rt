@@ -3,6 +3,7 @@
 
 mod access;
 mod answers;
+mod asks;
 mod buffers;
 mod carried;
 mod cells;

@@ -5,7 +5,7 @@ use Rattle.termwiz_wire.specs.declared.sent.Ask.{Ask}
 use Rattle.tikeburo_c.proofs.Decoded.{failed_by, more_behind, not_decoded, one_whole}
 use Rattle.tikeburo_c.specs.Outcomes.{decoding_failure}
 use Rattle.tikeburo_c.specs.Streams.{IsOnlyAsk}
-use Rattle.tikeburo_c.proofs.answers.only_ask.Goals as goal
+use Rattle.tikeburo_c.proofs.asks.only_ask.Goals as goal
 
 pub returns-in_err-ask : goal.returns-in_err-ask
 returns-in_err-ask c =

@@ -18,7 +18,7 @@ pub enum Make {
     New,
 }
 
-/// Asks so often for so many of the last changes. This is how many entries the replies have.
+/// Asks `count` times for the last `due` changes, and returns how many entries the replies have.
 pub fn asked(alloc: Global, start: Start, due: usize, size: Option<u16>, count: u32) -> Sum {
     let surface = begun(alloc, start, size)?;
     let seq = surface.current_seqno().saturating_sub(due);
@@ -30,7 +30,7 @@ pub fn asked(alloc: Global, start: Start, due: usize, size: Option<u16>, count: 
     Ok(entries)
 }
 
-/// Makes one of these so often. This is how many changes or columns they have.
+/// Makes one of these `count` times, and returns how many changes or columns they have.
 pub fn made(alloc: Global, make: Make, from: Start, to: Start, count: u32) -> Sum {
     let mut surface = begun(alloc, from, None)?;
     let other = begun(alloc, to, None)?;
@@ -60,7 +60,8 @@ fn len_of(alloc: Global, make: Make, surface: &Screen, other: &Screen) -> Sum {
     }
 }
 
-/// Encodes or decodes an answer that is a repaint. This is how many bytes or changes there are.
+/// Encodes or decodes an answer that is a repaint `count` times, and returns how many bytes or
+/// changes there are.
 pub fn coded(alloc: Global, decodes: bool, count: u32) -> Sum {
     let surface = begun(alloc, Start::Text(Pens::Ten), None)?;
     let answer = surface.answer(0)?;

@@ -68,11 +68,11 @@ pub enum Start {
     Page,
     /// A blank surface of 80 columns and 24 rows, or SIZE.
     Rows,
-    /// The same, which short lines have filled.
+    /// A blank surface of 80 columns and 24 rows, or SIZE, which short lines have filled.
     FilledRows,
     /// A surface of 80 columns, or SIZE, and 24 rows, whose first row is full of kana.
     WideRow,
-    /// An 80x24 with so many short lines in its log, or SIZE.
+    /// An 80x24 with this many short lines in its log, or SIZE.
     Log(u16),
     /// An 80x24 full of text.
     Text(Pens),
@@ -119,7 +119,7 @@ pub fn begun(alloc: Global, start: Start, size: Option<u16>) -> Result<Screen, S
     }
 }
 
-// A surface, or a full one, on which a text is printed so often.
+// A surface, or a full one, on which a text is printed `count` times.
 fn printed_on(
     alloc: Global,
     is_full: bool,
@@ -181,7 +181,7 @@ pub fn add_text(alloc: Global, surface: &mut Screen, text: &str) -> Done {
     Ok(())
 }
 
-/// Prints a text so often, each time in the next of the pens.
+/// Prints a text `count` times, each time in the next of the pens.
 #[inline(always)]
 pub fn add_runs(alloc: Global, surface: &mut Screen, pens: Pens, text: &str, count: usize) -> Done {
     for index in 0..count {

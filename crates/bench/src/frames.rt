@@ -16,7 +16,7 @@ const STATE: &str = "ready, and each panel shows what it has ";
 
 const OTHER_STATE: &str = "DRAWN ANEW: A PANEL HAS TWO OTHER LINES.";
 
-/// Draws frames so often. This is how many entries their diffs have.
+/// Draws `count` frames, and returns how many entries their diffs have.
 pub fn framed(alloc: Global, pens: Pens, count: u32) -> Sum {
     let mut shown = begun(alloc, Start::Blank, None)?;
     let mut next = begun(alloc, Start::Blank, None)?;

@@ -1,4 +1,4 @@
-//! Workloads on lines of so many columns, and on attributes.
+//! Workloads on lines of a given number of columns, and on attributes.
 ghost use Rattle.std.specs.Prelude.{◌≤◌};
 
 use crate::drawn::{Sum, sized};
@@ -21,8 +21,8 @@ pub enum LineWork {
     Append,
 }
 
-/// Works on a line so often that has a colour for every 8 columns. It is stored as one text, but
-/// for what copies it or inserts.
+/// Works `count` times on a line that has a colour for every 8 columns. It is stored as one text,
+/// but for what copies it or inserts.
 pub fn worked(alloc: Global, work: LineWork, size: Option<u16>, count: u32) -> Sum {
     let columns = sized(size, 120);
     let mut line = coloured(alloc, columns)?;
@@ -44,7 +44,7 @@ pub fn worked(alloc: Global, work: LineWork, size: Option<u16>, count: u32) -> S
     }
 }
 
-// A line whose cells have each a place of its own.
+// A line whose cells are stored one by one.
 fn coloured(alloc: Global, columns: usize) -> Result<Line, AllocError> {
     let mut line = Line::with_width(alloc, columns, SEQ_ZERO)?;
     for column in 0..columns {
@@ -56,7 +56,8 @@ fn coloured(alloc: Global, columns: usize) -> Result<Line, AllocError> {
     Ok(line)
 }
 
-// How many columns so many clones have, which may be stored as one text then.
+// Clones the line `count` times, stores each clone as one text where it is to be compressed, and
+// returns how many columns they have.
 fn clones(line: &Line, compresses: bool, count: u32) -> Sum {
     let mut columns = 0usize;
     for _ in 0..count {
@@ -69,7 +70,7 @@ fn clones(line: &Line, compresses: bool, count: u32) -> Sum {
     Ok(columns)
 }
 
-// The widths of the cells, which are walked over so often.
+// Walks over the cells `count` times, and returns the sum of their widths.
 fn widths(line: &Line, count: u32) -> usize {
     let mut columns = 0usize;
     for _ in 0..count {
@@ -80,7 +81,7 @@ fn widths(line: &Line, count: u32) -> usize {
     columns
 }
 
-// The width of the cell at a column, which is asked for so often.
+// Asks `count` times for the cell at a column, and returns the sum of its widths.
 fn widths_at(line: &Line, column: usize, count: u32) -> usize {
     let mut columns = 0usize;
     for _ in 0..count {
@@ -89,7 +90,7 @@ fn widths_at(line: &Line, column: usize, count: u32) -> usize {
     columns
 }
 
-// How often the line's text goes on, where its mark is set and taken away so often.
+// Sets the line's mark or takes it away, `count` times in all, and returns how often it is set.
 fn marks(line: &mut Line, count: u32) -> Sum {
     let mut marks = 0usize;
     for round in 0..count {
@@ -99,7 +100,7 @@ fn marks(line: &mut Line, count: u32) -> Sum {
     Ok(marks)
 }
 
-// How many columns stay of a line that is pruned so often.
+// Prunes the line `count` times, and returns how many columns it has then.
 fn prune(line: &mut Line, count: u32) -> Sum {
     for _ in 0..count {
         line.prune_trailing_blanks(SEQ_ZERO)?;
@@ -107,8 +108,8 @@ fn prune(line: &mut Line, count: u32) -> Sum {
     Ok(line.len())
 }
 
-// How many columns a line has where so many blanks are inserted at its beginning, and so many cells
-// removed at its end.
+// Inserts `count` blanks at the line's beginning, each of which removes a cell at its end, and
+// returns how many columns the line has then.
 fn insert(line: &mut Line, columns: usize, count: u32) -> Sum
     requires { 1 ≤ columns }
 {
@@ -118,7 +119,8 @@ fn insert(line: &mut Line, columns: usize, count: u32) -> Sum
     Ok(line.len())
 }
 
-// How many columns the lines have that were full, where so many characters are set one by one.
+// Sets `count` characters at the ends of lines, one by one, and returns how many columns the full
+// lines have.
 fn appended(alloc: Global, columns: usize, count: u32) -> Sum {
     let mut line = Line::new(alloc, SEQ_ZERO);
     let mut appended = 0usize;
@@ -133,7 +135,7 @@ fn appended(alloc: Global, columns: usize, count: u32) -> Sum {
     Ok(appended)
 }
 
-/// Sets an attribute so often. This is how often it is set then.
+/// Sets an attribute `count` times, and returns how often it was set to `true`.
 pub fn attribute_set(count: u32) -> Sum {
     let mut attrs = CellAttributes::blank();
     let mut changed = 0usize;

@@ -1,4 +1,4 @@
-//! Workloads for measuring, each run as often as is asked: `bench WORKLOAD COUNT`, or
+//! Workloads for measuring, each run COUNT times: `bench WORKLOAD COUNT`, or
 //! `bench WORKLOAD COUNT SIZE` to see how one grows with what it works on.
 //! The program keeps no time: measure it from outside, at two counts, and take the difference.
 #![tactic(auto)]

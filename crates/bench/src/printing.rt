@@ -1,4 +1,4 @@
-//! Workloads that print or draw on a surface, or give it another size.
+//! Workloads that print or draw on a surface, or resize it.
 ghost use Rattle.std.specs.Prelude.{◌<◌};
 
 use crate::drawn::{
@@ -48,10 +48,10 @@ pub enum Print {
     Piece,
 }
 
-/// Prints so often.
+/// Prints `count` times, and returns the surface's number.
 pub fn printed(alloc: Global, start: Start, print: Print, size: Option<u16>, count: u32) -> Sum {
     let mut surface = begun(alloc, start, size)?;
-    // The text is taken so often in a row.
+    // The text is repeated this many times.
     let (text, times) = match print {
         Print::Line(line) => (line, 1),
         Print::Logged | Print::Behind => (SHORT, 1),
@@ -73,7 +73,7 @@ pub fn printed(alloc: Global, start: Start, print: Print, size: Option<u16>, cou
     Ok(surface.current_seqno())
 }
 
-/// Draws so often.
+/// Draws `count` times, and returns the surface's number.
 pub fn drawn(alloc: Global, start: Start, draw: Draw, size: Option<u16>, count: u32) -> Sum {
     let mut surface = begun(alloc, start, size)?;
     let columns = sized(size, 80);
@@ -99,7 +99,7 @@ pub fn drawn(alloc: Global, start: Start, draw: Draw, size: Option<u16>, count: 
     Ok(surface.current_seqno())
 }
 
-// A row with so many colours.
+// Prints a row of `colours` texts of eight characters, each in the next of the pens.
 #[inline(always)]
 fn add_row(alloc: Global, surface: &mut Screen, pens: Pens, colours: usize) -> Done {
     add_runs(alloc, surface, pens, EIGHT, colours)?;

@@ -20,7 +20,7 @@ pub enum Feed {
     Typed,
 }
 
-/// Feeds a client so often from a source that shows a coloured 80x24.
+/// Feeds a client `count` times from a source that shows a coloured 80x24.
 pub fn fed(alloc: Global, way: Feed, count: u32) -> Sum {
     let mut source = coloured_source(alloc)?;
     let mut client = Client::new(alloc, UnicodeWidths, Limits::default())?;

@@ -20,7 +20,7 @@ pub enum View {
     Repaint,
 }
 
-/// Changes the surface so often, and a viewer shows it each time.
+/// Changes the surface `count` times, and a viewer shows it each time.
 pub fn viewed(alloc: Global, start: Start, view: View, count: u32) -> Sum {
     let mut surface = begun(alloc, start, None)?;
     let mut viewer = Viewer::new(alloc, &surface)?;

@@ -13,7 +13,7 @@ use std::alloc::Global;
 pub enum Work {
     Print(Start, Print),
     Draw(Start, Draw),
-    /// So many of the last changes are asked for.
+    /// This many of the last changes are asked for.
     Ask(Start, usize),
     Make(Make, Start),
     /// A diff from an 80x24 full of text.
@@ -174,8 +174,8 @@ impl Work {
     }
 }
 
-/// Runs the workload so often, and gives a sum that depends on what was done. Where its object can
-/// have another size, that may be given.
+/// Runs the workload `count` times, and returns a sum that depends on what was done. Where its
+/// object can have another size, that may be given.
 pub fn run(alloc: Global, work: Work, size: Option<u16>, count: u32) -> Sum {
     match work {
         Work::Print(start, print) => printing::printed(alloc, start, print, size, count),

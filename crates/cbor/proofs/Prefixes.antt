@@ -1,4 +1,4 @@
--- A decoding that is made of steps from left to right decides as much with more bytes behind.
+-- A decoding that is made of steps from left to right decides as much when more bytes follow.
 use Rattle.std.proofs.Common.{◌≡◌, ◌≢◌, ℕ, ℤ, ◌+◌, ◌-◌, ◌*◌, ◌^◌, ◌<◌, ◌≤◌, Bool, true, false, cond, ltb, eqb, List, [], ◌∷◌, ◌++◌, length, take, drop, Result, Ok, Err, refl, sym, ap, subst, ◌∙◌, arith, inl, inr}
 use Rattle.core.specs.Str.{is_utf8}
 use Rattle.std.specs.Int.{Width, w16, w32, w64, byte_len, from_be_bytes}
@@ -30,11 +30,11 @@ chain {fe = fe} gy {gz = gz} {read = read} f first stay end = record {
   ends = λ bytes. bind_ends fe (read 0 bytes) (λ y. f 0 y bytes) (first.ends bytes) (λ y. end y bytes);
 }
 
--- behind a value
+-- after a value
 pub bind : {A Z E : Type 0} {fe : E → FaultKind} {gz : Z → List ℕ → Z} {read : ℕ → List ℕ → Result (A × List ℕ) E} (f : ℕ → A × List ℕ → Result Z E) → Reads fe left read → ((a : A) → Reads fe gz (λ room rest. f room (a, rest))) → Reads fe gz (λ room bytes. read room bytes >>= f room)
 bind f first then = chain left (λ room y bytes. f room y) first (λ y room bytes more. (then y.0).stays room y.1 more) (λ y bytes. (then y.0).ends y.1)
 
--- behind what has no value
+-- after what has no value
 pub bind_rest : {Z E : Type 0} {fe : E → FaultKind} {gz : Z → List ℕ → Z} {read : ℕ → List ℕ → Result (List ℕ) E} (f : ℕ → List ℕ → Result Z E) → Reads fe behind read → Reads fe gz f → Reads fe gz (λ room bytes. read room bytes >>= f room)
 bind_rest f first then = chain behind (λ room y bytes. f room y) first (λ y room bytes more. then.stays room y more) (λ y bytes. then.ends y)
 
@@ -126,7 +126,7 @@ byte_ends (b ∷ bytes) = tt
 pub byte_reads : Reads itself left byte_in
 byte_reads = record { stays = byte_stays; ends = byte_ends }
 
--- so many bytes, and what is read behind them
+-- n bytes, and what is read after them
 abbrev front_in : {Z : Type 0} → ℕ → (ℕ → List ℕ → List ℕ → Result Z FaultKind) → ℕ → List ℕ → Result Z FaultKind
 front_in n f room bytes = cond (ltb (length bytes) n) (Err (lack room n bytes)) (f room (take n bytes) (drop n bytes))
 
@@ -244,7 +244,7 @@ pub text_reads : Reads fault left text_at
 unfolding text_at
 text_reads = at text_in_reads
 
--- the items of a list fit, or go past the limit: more bytes behind don't change it
+-- the items of a list fit, or go past the limit: more bytes after it don't change that
 list_tail : (n : ℕ) → Reads itself left (λ room rest. cond (ltb (allowed room rest) n) (Err Limit) (Ok (n, rest)))
 list_tail n = record {
   stays = λ room bytes more.
@@ -287,7 +287,7 @@ kind_reads = at kind_in_reads
 abbrev given : {Y E : Type 0} → Y → Result Y E
 given y = Ok y
 
--- a value is the same with more bytes behind
+-- a value is the same with more bytes after it
 pub value_after : {A E : Type 0} {fe : E → FaultKind} {read : ℕ → List ℕ → Result (A × List ℕ) E} → Reads fe left read → (room : ℕ) (bytes more : List ℕ) (x : A) (rest : List ℕ) → read (length more + room) bytes ≡ Ok (x, rest) → read room (bytes ++ more) ≡ Ok (x, rest ++ more)
 value_after {A = A} {E = E} {fe = fe} {read = read} reads room bytes more x rest is = subst (λ (r : Result (A × List ℕ) E). Stays fe left more r (read room (bytes ++ more))) is (reads.stays room bytes more)
 

@@ -44,8 +44,8 @@ abbrev pub Finds : {X Y : Type 0} → (X → Y) → Result X ReadError → Resul
 Finds view (Ok x) read = read ≡ Ok (view x)
 Finds view (Err e) read = Fails e read
 
--- a call fails with the fault that decoding gives, with so many bytes allowed from the item on that
--- shows it, unless memory was refused
+-- a call fails with the fault that decoding gives, with this many bytes allowed from the item on
+-- that shows it, unless memory was refused
 abbrev pub Stops : {Y : Type 0} → ℕ → ReadError → Result Y Stop → Type 0
 Stops left error read =
     IfSome (fault_of error) (λ f. read ≡ Err (record { fault = f; left = left }))
@@ -154,7 +154,7 @@ list_in room bytes = do
   n ← head_in room 4 bytes
   if nat_lt (allowed room n.1) n.0 then Err Limit else Ok n
 
--- the bytes after the head of an array of so many items
+-- the bytes after the head of an array of `count` items
 unfoldable pub array_of_in : ℕ → ℕ → List ℕ → Result (List ℕ) FaultKind
 array_of_in room count bytes = do
   n ← head_in room 4 bytes

@@ -1,10 +1,10 @@
--- What bytes decide, when more may come behind them.
+-- What bytes decide, when more may follow them.
 use Rattle.std.specs.Prelude.{◌≡◌, ◌≢◌, ◌⊎◌, ℕ, ◌+◌, ◌<◌, ◌≤◌, List, ◌++◌, length, take, Result, Ok, Err}
 use Rattle.cbor.specs.declared.error.FaultKind.{FaultKind}
 use Rattle.cbor.specs.declared.error.FaultKind.TheVariants.{Truncated}
 use Rattle.cbor.specs.Decoding.{Stop}
 
--- more bytes come behind those that a value left
+-- more bytes come after those that a value left
 abbrev pub left : {A : Type 0} → A × List ℕ → List ℕ → A × List ℕ
 left x more = (x.0, x.1 ++ more)
 
@@ -12,7 +12,7 @@ left x more = (x.0, x.1 ++ more)
 abbrev pub behind : List ℕ → List ℕ → List ℕ
 behind rest more = rest ++ more
 
--- where nothing is taken
+-- what was read without taking bytes stays, whatever bytes follow
 abbrev pub seen : {A : Type 0} → A → List ℕ → A
 seen x more = x
 
@@ -36,8 +36,8 @@ abbrev pub Decides : {Y E : Type 0} → (E → FaultKind) → Result Y E → Typ
 Decides fault (Ok y) = Unit {0}
 Decides fault (Err e) = fault e ≢ Truncated
 
--- a decoding from left to right: a value or a fault stays as it is, whatever comes behind within
--- the limit, and at the limit there is one
+-- a decoding from left to right: a value or a fault stays as it is, whatever follows within the
+-- limit, and at the limit there is one
 pub record Reads {Y E : Type 0} (fault : E → FaultKind) (grow : Y → List ℕ → Y)
     (read : ℕ → List ℕ → Result Y E) : Type 0 where
   pub stays :
@@ -45,7 +45,7 @@ pub record Reads {Y E : Type 0} (fault : E → FaultKind) (grow : Y → List ℕ
       Stays fault grow more (read (length more + room) bytes) (read room (bytes ++ more))
   pub ends : (bytes : List ℕ) → Decides fault (read 0 bytes)
 
--- it fails so
+-- decoding fails with this fault
 abbrev pub FailsBy : {Y E : Type 0} → (E → FaultKind) → FaultKind → Result Y E → Type 0
 FailsBy fault f (Ok y) = ⊥
 FailsBy fault f (Err e) = fault e ≡ f

@@ -122,7 +122,7 @@ pub fn answer<P: Play>(alloc: Global, line: &str, play: &mut P) -> Result<String
     turn.into_answer()
 }
 
-/// Adds each line behind a mark.
+/// Adds each line after a mark.
 pub fn push_lines(printed: &mut String, mark: &str, lines: &str) -> Result<(), PlayError> {
     for line in lines.lines() {
         push_line(printed, mark, line)?;

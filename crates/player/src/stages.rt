@@ -24,7 +24,7 @@ pub struct Stages {
 }
 
 impl Stages {
-    /// No stage is set yet. Lines are left as calls leave them, or compressed behind each call.
+    /// No stage is set yet. Lines are left as calls leave them, or compressed after each call.
     pub fn new(alloc: Global, compresses: bool) -> Stages {
         Stages {
             alloc,

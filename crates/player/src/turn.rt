@@ -185,7 +185,7 @@ impl<'a> Turn<'a> {
         self.note(added);
     }
 
-    /// Answers a text with a bar behind it.
+    /// Answers a text with a bar after it.
     pub fn push_barred(&mut self, text: &str) {
         self.push_str(text);
         self.push('|');

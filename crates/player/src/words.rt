@@ -41,7 +41,7 @@ pub fn name_of<T: PartialEq>(names: &[(&'static str, T)], value: &T) -> &'static
 }
 
 /// A colour: `default`, an index of the palette, `maroon`, `true`, which is black or else the
-/// palette's 7, or `#RRGGBB`, with `+` and an index behind it where it falls back to the palette.
+/// palette's 7, or `#RRGGBB`, with `+` and an index after it where it falls back to the palette.
 pub fn color_of(word: &str) -> Option<ColorAttribute> {
     match word {
         "default" => Some(ColorAttribute::Default),

@@ -115,7 +115,7 @@ module _ (source w h : ℕ) (input : Known) where
       }
   done_on outcomes rest left line s t n k (outcome ∷ other ∷ more) run come does = absurd does
 
-  -- nothing comes behind them
+  -- nothing comes after them
   all_answered : (outcomes : List SendOutcome) (rest : Known) (s : Sender) (n : ℕ) (run : IsDone outcomes rest s n) → AnswersAll (first_source source w h) 0 run.requests outcomes
   all_answered outcomes rest s n run =
       let P : List Request → Type 0 = λ all. AnswersAll (first_source source w h) 0 all outcomes in

@@ -10,7 +10,7 @@ use Rattle.sessions.specs.declared.words.WatchOptions.{WatchOptions}
 abbrev Word : Type 0
 Word = String Global
 
--- the words behind the first n
+-- the words after the first n
 behind : (n : ℕ) (words : List Word) → take (length words - n) (drop n words) ≡ drop n words
 behind n words = take_all (length words - n) (drop n words) (omega (arith, length-drop n words))
 
@@ -19,7 +19,7 @@ each_asks o p word [] some first is asked = absurd (omega (arith, some))
 each_asks o p word (w ∷ words) some first is asked =
     Each o p w words (ap (λ (x : Word). string_bytes x) (sym first) ∙ is) (subst (λ (ws : List Word). AskFor (record o { each = true }) ws p) (behind 1 (w ∷ words)) asked)
 
--- an option with a number behind it, which are the first two words
+-- an option with a number after it, which are the first two words
 pub record Given (IsValue : List ℕ → Type 0) (option : List ℕ) (words : List Word) (word number : Word) (value : ℕ) : Type 0 where
   pub some : 2 ≤ length words
   pub first : word ≡ get_or words 0 word

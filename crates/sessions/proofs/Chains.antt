@@ -27,7 +27,7 @@ use Rattle.sessions.specs.declared.watch.runs.Watched.{Watched}
 answer-some : (a : SentAnswer) (rest : List ℕ) → answer unicode_columns a ++ rest ≡ [] → ⊥
 answer-some a rest none = omega (arith, ap length none, length-append (answer unicode_columns a) rest, some_bytes unicode_columns a)
 
--- what is shown and stale of answers, the first of which is taken by whoever shows s
+-- what is shown and stale of answers, the first of which a client that shows s takes
 module _ (s : Shown) (f : Given) (takes : TakesFrame s f) where
   one_shown : shown_one s f.sent ≡ shown_with f ∷ []
   one_shown = ap (λ (b : Bool). if b then taken unicode_columns s f.sent ∷ [] else []) takes.fresh ∙ ap (λ (v : Shown). v ∷ []) takes.leads

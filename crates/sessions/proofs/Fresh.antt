@@ -9,7 +9,7 @@ prepend_none : (known : Option (List ℕ)) → prepend_known [] known ≡ known
 prepend_none None = refl
 prepend_none (Some bytes) = refl
 
--- all that is behind it
+-- a new reader has all that is left of what it reads
 pub fresh : {T A : Type 0} (remaining : T → Option (List ℕ)) (reader : BufReader T A) (known : Option (List ℕ)) → remaining (reader_inner reader) ≡ known → reader_buffer reader ≡ [] → reader_capacity reader ≡ 8192 → reader_remaining remaining reader ≡ known
 fresh remaining reader known is empty capacity =
     ap (λ (n : ℕ). if n == 0 then None else prepend_known (reader_buffer reader) (remaining (reader_inner reader))) capacity

@@ -1,4 +1,4 @@
--- What a source answers leads on whoever it serves.
+-- What a source answers leads on each client that it serves.
 use Rattle.std.proofs.Common.{◌≡◌, ◌⊎◌, ℕ, ◌<◌, ◌∙◌, inl, inr, true, List, [], refl, sym, ap, subst, arith}
 use Rattle.std.specs.Prelude.{◌==◌, None}
 use Rattle.std.proofs.lemmas.Bool.{cases_Bool, eqb-true, true≢false}
@@ -84,6 +84,6 @@ still_named s t n v same keeps named = record {
   own = λ some. named.own some ∙ sym same;
 }
 
--- whoever has taken no answer shows what no number names
+-- a client that has taken no answer shows what no number names
 pub first_named : (s : Sender) → Serves columns s nobody → HasNamed s 0 first_shown
 first_named s serves = record { client = nobody; shows = refl; serves = serves; number = refl; own = λ some. absurd (some refl) }

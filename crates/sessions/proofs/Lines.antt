@@ -121,7 +121,7 @@ module _ {C : Type 0} (says : Bytes → C → Type 0) where
         subst (λ (cs : List C). Say says xs cs) (sym alone) (LastLine xs commands end (subst (λ (line : Bytes). LineSays says line commands) all.line said))
   ]
 
-  -- what the first line says, and some behind it
+  -- what the first line says, and some lines after it
   pub line_says_first : (xs : Bytes) (commands more : List C) → LineSays says (first_piece 10 xs) commands → SayFirst says (drop_through 10 xs) more → SayFirst says xs (commands ++ more)
   line_says_first xs commands more said later =
       let cut = parted xs in

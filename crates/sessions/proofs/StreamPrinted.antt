@@ -85,7 +85,7 @@ some_more (x ∷ places) n at e = cc
 
 -- ---- a session
 
--- so many answers are taken, and what is shown then is printed or pending
+-- `count` answers are taken, and what is shown then is printed or pending
 pub record IsSoFar (o : WatchOptions) (bytes : Bytes) (count : ℕ) (now : Viewer) (later : Option Bytes) (p : Printing) (old new : Outputs) : Type 0 where
   pub come : HasCome o.limits bytes count now later
   pub each : p.each ≡ o.each

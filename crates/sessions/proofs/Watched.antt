@@ -115,7 +115,7 @@ module _ (limits : Limits) where
 
 -- ---- what is taken so far
 
--- of these bytes so many answers are taken, and the others are still to come
+-- of these bytes `count` answers are taken, and the others are still to come
 pub record HasCome (limits : Limits) (bytes : Bytes) (count : ℕ) (now : Viewer) (later : Option Bytes) : Type 0 where
   pub given : List SentAnswer
   pub counted : count ≡ length given

@@ -21,7 +21,7 @@ Does s n Send (Sent bytes) t k =
     IsAnswered s (own_ask s n) bytes t × (k ≡ next_number t.surface.log)
 Does s n _ (Sent bytes) t k = ⊥
 
--- the same over a request: the answer for an ask is none of those that go on from the last one
+-- from s and n over a request to t and k: an answer to an ask doesn't change n
 abbrev pub Answers : Sender → ℕ → Request → SendOutcome → Sender → ℕ → Type 0
 Answers s n (request.Event e) outcome t k = Does s n e outcome t k
 Answers s n (request.Ask ask) (Sent bytes) t k = IsAnswered s ask bytes t × (k ≡ n)
@@ -35,7 +35,7 @@ DoesLine line s n (outcome ∷ []) t k =
     ((request : Request) × SaysRequest line request × Answers s n request outcome t k)
 DoesLine line s n _ t k = ⊥
 
--- and this holds of the bytes that are sent
+-- what a line asks for is done, and this holds of the bytes that are sent
 pub record SendsLine (line : List ℕ) (s : Sender) (n : ℕ) (t : Sender) (k : ℕ)
     (holds : List ℕ → Type 0) : Type 0 where
   pub outcomes : List SendOutcome

@@ -1,5 +1,5 @@
--- Answers one behind another, each of which brings whoever took all before it to the full screen
--- that its source had.
+-- Answers one after another, each of which brings a client that took all before it to the full
+-- screen that its source had.
 use Rattle.std.specs.Bool.{⊤}
 use Rattle.std.specs.Prelude.{◌≡◌, ◌≤◌, true, false, List, [], ◌∷◌, length}
 use Rattle.termwiz_cell.specs.Width.{unicode_columns}
@@ -10,12 +10,12 @@ use Rattle.termwiz_wire.specs.Sent.{IsSent, answer}
 use Rattle.termwiz_wire.specs.Within.{IsBorne}
 use Rattle.termwiz_wire.specs.declared.fault.Limits.{Limits}
 
--- what is shown by whoever took the frame's answer
+-- what a client shows that took the frame's answer
 abbrev pub shown_with : Given → Shown
 shown_with f =
     record { picture = f.shown; source = f.sent.source; number = f.sent.answer.number }
 
--- by whoever took none
+-- what a client shows that took no answer
 abbrev pub first_shown : Shown
 first_shown = record { picture = blank_screen 1 1; source = 0; number = 0 }
 
@@ -24,7 +24,7 @@ pub record IsWithin (limits : Limits) (f : Given) : Type 0 where
   pub screen : FitsLimits limits f.sent.answer.width f.sent.answer.height
   pub bytes : length (answer unicode_columns f.sent) ≤ limits.bytes
 
--- whoever shows s takes the answer, and shows the frame's screen then
+-- a client that shows s takes the answer, and shows the frame's screen then
 pub record TakesFrame (s : Shown) (f : Given) : Type 0 where
   pub form : IsSent unicode_columns f.sent
   pub borne : IsBorne f.sent
@@ -32,11 +32,11 @@ pub record TakesFrame (s : Shown) (f : Given) : Type 0 where
   pub size : has_other_size s f.sent ≡ false
   pub leads : taken unicode_columns s f.sent ≡ shown_with f
 
--- and takes each of the answers in turn
+-- a client that shows s takes each of the answers in turn
 abbrev pub TakesFrames : Shown → List Given → Type 0
 TakesFrames s [] = ⊤
 TakesFrames s (f ∷ frames) = TakesFrame s f × TakesFrames (shown_with f) frames
 
--- whoever has taken none does
+-- a client that has taken no answer takes each of these in turn
 abbrev pub IsChain : List Given → Type 0
 IsChain frames = TakesFrames first_shown frames

@@ -1,5 +1,5 @@
 -- What the lines of a script say: a command each, but for empty lines and comments. Lines end with
--- LF, and what is behind the last LF is a line too.
+-- LF, and what follows the last LF is a line too.
 use Rattle.std.specs.Prelude.{◌≡◌, ◌⊎◌, ℕ, ◌<◌, ◌==◌, Bool, true, false, List, [], ◌∷◌, ◌++◌, length}
 use Rattle.std.specs.List.{before_first, after_first, position_or_len}
 

@@ -26,7 +26,7 @@ abbrev pub viewed_lines : List ℕ → ℕ → Screen → List ℕ
 viewed_lines word number s =
     word ++ codes " " ++ decimal number ++ newline ++ row_lines s.rows ++ cursor_line s.x s.y
 
--- an answer that is stale, and where that begins which doesn't fit
+-- a stale answer, and where in it what doesn't fit begins
 abbrev pub stale_line : ℕ → ℕ → List ℕ
 stale_line number at =
     codes "answer " ++ decimal number ++ codes ": stale at " ++ decimal at ++ newline

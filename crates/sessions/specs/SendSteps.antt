@@ -17,8 +17,8 @@ pub record HasNamed (s : Sender) (n : ℕ) (v : Shown) : Type 0 where
   pub number : v.number ≡ n
   pub own : (n ≡ 0 → ⊥) → v.source ≡ s.number
 
--- from s and n over an event to t and k: whoever shows v takes what is sent then, and any run goes
--- on from there
+-- from s and n over an event to t and k: a client that shows v takes what is sent then, and any run
+-- goes on from there
 pub record Steps (s : Sender) (n : ℕ) (v : Shown) (e : SendEvent) (outcome : SendOutcome)
     (t : Sender) (k : ℕ) : Type 0 where
   pub given : List Given

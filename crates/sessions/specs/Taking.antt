@@ -37,7 +37,7 @@ abbrev pub IsSession : StreamError → Type 0
 IsSession (Answer e) = ⊥
 IsSession (Session error) = ⊤
 
--- the bytes begin with an answer that whoever shows s takes so, and shows u then
+-- the bytes begin with an answer that a client that shows s takes so, and it shows u then
 pub record TakesOne (limits : Limits) (s : Shown) (bytes : List ℕ) (t : Taken) (u : Shown)
     (left : List ℕ) : Type 0 where
   pub sent : SentAnswer

@@ -28,7 +28,7 @@ viewed view =
 abbrev pub kept : Bool → List Shown → List Shown
 kept each shown = if each then shown else drop (length shown - 1) shown
 
--- a view of what is shown now is kept behind the others, or in their place
+-- a view of what is shown now is kept after the others, or in their place
 pub record KeepsOne (each : Bool) (old : List View) (now : Shown) (new : List View) : Type 0 where
   pub view : View
   pub shows : viewed view ≡ now
@@ -44,7 +44,7 @@ KeepsAnswer each now number (outcomes.Stale at) old new =
     (new.stale.items ≡ old.stale.items ++ (number, at) ∷ []) ×
     (new ≡ record old { stale = new.stale })
 
--- what is shown after an answer that whoever shows s takes, and is not where it is stale
+-- what a client that shows s shows after an answer, or nothing where the answer is stale
 abbrev pub shown_one : Shown → SentAnswer → List Shown
 shown_one s a = if fits s a then taken unicode_columns s a ∷ [] else []
 
@@ -53,7 +53,7 @@ abbrev pub shown_each : Shown → List SentAnswer → List Shown
 shown_each s [] = []
 shown_each s (a ∷ more) = shown_one s a ++ shown_each (taken unicode_columns s a) more
 
--- the number of an answer that is stale, and where that begins which doesn't fit
+-- the number of a stale answer, and where in it what doesn't fit begins
 abbrev pub stale_one : ℕ → Shown → SentAnswer → List (ℕ × ℕ)
 stale_one n s a = if fits s a then [] else (n, stale_place s a) ∷ []
 
@@ -72,7 +72,7 @@ module _ (limits : Limits) where
       (at ≡ size_place s a)
   TakesNone s bytes _ = ⊥
 
-  -- so many answers were taken: either the bytes end there, or the next one isn't taken
+  -- `count` answers were taken: either the bytes end there, or the next one isn't taken
   abbrev pub Ends : Shown → List ℕ → ℕ → Option (ℕ × ClientError) → Type 0
   Ends s rest count None = rest ≡ []
   Ends s rest count (Some fault) =

@@ -15,7 +15,7 @@ pub record IsPositive (word : List ℕ) : Type 0 where
   pub some : 0 < value_of word
 
 module _ {A : Type 0} where
-  -- a size, behind the number of the source where there is one
+  -- a size, after the number of the source where there is one
   abbrev pub AreSendWords : List (String A) → Type 0
   AreSendWords (option ∷ number ∷ width ∷ height ∷ []) =
       (string_bytes option ≡ codes "-s") × IsPositive (string_bytes number) ×
@@ -34,7 +34,7 @@ module _ {A : Type 0} where
   IsInteractive [] = ⊥
   IsInteractive (option ∷ words) = string_bytes option ≡ codes "-i"
 
-  -- the same words, which may stand behind `-i`
+  -- words as of `AreSendWords`, which may stand after `-i`
   abbrev pub AreRunWords : List (String A) → Type 0
   AreRunWords words = AreSendWords words ⊎ (IsInteractive words × AreSendWords (drop 1 words))
 

@@ -36,7 +36,7 @@ pub fn piped(
     Ok(shown)
 }
 
-/// The bytes that were sent, one answer behind another.
+/// The bytes that were sent, one answer after another.
 pub fn stream(alloc: Global, outcomes: &[SendOutcome]) -> Result<Vec<u8>, AllocError>
     ensures { IfOk result (λ stream. stream.items ≡ stream_of outcomes.now) }
 {

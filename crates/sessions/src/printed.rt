@@ -14,7 +14,7 @@ use termwiz_line::line::line::Line;
 use termwiz_surface::surface::{Screen, SurfaceError};
 use termwiz_surface::view::{AcceptError, ManyOutcome, Outcome};
 
-/// An outcome as the lines that are printed for it, of which there may be none.
+/// An outcome as the lines that are printed for it: one, several or none.
 #[derive(Drop)]
 pub struct Printed<'a>(pub &'a Outcome);
 
@@ -45,7 +45,7 @@ impl Display for PrintedView<'_> {
     }
 }
 
-/// The number of an answer that is stale, and the byte of it at which that begins which doesn't fit.
+/// The number of a stale answer, and the byte of it at which what doesn't fit begins.
 #[derive(Drop)]
 pub struct PrintedStale(pub usize, pub usize);
 

@@ -253,7 +253,7 @@ pub(crate) fn given_size(word: &str) -> Result<usize, LineError>
     size(word).ok_or(LineError::BadCommand)
 }
 
-/// The pen that the words, of which there is at least one, make of the default one in turn.
+/// The pen that one word or more make of the default one, in order.
 fn pen(alloc: Global, words: &[&str]) -> Result<CellAttributes, LineError> {
     if words.is_empty() {
         return Err(LineError::BadCommand);

@@ -28,14 +28,14 @@ use std::io::{BufReader, Read, Write};
 pub const USAGE: &str = "surfsend [-i] [-s NUMBER] WIDTH HEIGHT";
 
 /// Runs the script that `input` holds on a surface of the size that `args` give, in columns and
-/// rows, and sends its answers to `out`, as those of the source that the number behind `-s` names,
+/// rows, and sends its answers to `out`, as those of the source that the number after `-s` names,
 /// or of source 1. What is refused goes to `err`. With `-i` each line is done as soon as it has
 /// come, and may be an ask, whose answer is sent.
 ///
 /// The result is the exit status: 0 where all is done, 2 for words that are no size, an input that
-/// can't be read or a bad command, and 3 for refused memory or a failed write. The line that says
-/// which goes to `err`, and a failed write has none. With status 2 nothing is written to `out`, or
-/// with `-i` what the lines before ask for, and with status 3 at most a beginning of what would be.
+/// can't be read or a bad command, and 3 for refused memory or a failed write. A line on `err` says
+/// why, but for a failed write. With status 2 nothing is written to `out`, or with `-i` what the
+/// lines before the bad one ask for, and with status 3 at most a beginning of the output.
 pub fn send_session<R: Read, O: Write, E: Write>(
     alloc: Global,
     args: &[String],
@@ -50,16 +50,16 @@ pub fn send_session<R: Read, O: Write, E: Write>(
     // Where the input and the output are known: what the script's lines send is written.
     ensures sent { result ≡ 0 → IsInteractive args.now ⊎ WritesRun args.now
         (R.remaining input.old) (O.contents out.old) (O.contents out.new) }
-    // And so are the answers that the lines ask for.
+    // With `-i`, the answers that the lines ask for are written.
     ensures answered { result ≡ 0 → IsInteractive args.now → AnswersAsAsked (drop 1 args.now)
         (R.remaining input.old) (O.contents out.old) (O.contents out.new) }
-    // At each status nothing else is: a beginning of it.
+    // At each status a beginning of that is written, and nothing else.
     ensures begun { IsInteractive args.now ⊎ (out.new ≡ out.old) ⊎ BeginsRun args.now
         (R.remaining input.old) (O.contents out.old) (O.contents out.new) }
     ensures answering { IsInteractive args.now →
         (out.new ≡ out.old) ⊎ AnswersFirstAsAsked (drop 1 args.now) (R.remaining input.old)
         (AppendsSome (O.contents out.old) (O.contents out.new)) }
-    // Where a line stops the run, the answers that the lines before it ask for, whole.
+    // Where a line stops the run, the answers that the lines before it ask for are written whole.
     ensures stopped { result ≡ 2 → IsInteractive args.now →
         (out.new ≡ out.old) ⊎ AnswersFirstAsAsked (drop 1 args.now) (R.remaining input.old)
         (Appends (O.contents out.old) (O.contents out.new)) }

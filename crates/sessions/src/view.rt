@@ -23,9 +23,9 @@ pub const USAGE: &str = "surfview WIDTH HEIGHT";
 /// Runs the script that `input` holds on a surface of the size that `args` give, in columns and
 /// rows, and prints its outcomes to `out`.
 ///
-/// The answer is the exit status: 0 where all is done, 2 for words that are no size, an input that
-/// can't be read or a bad command, and 3 for refused memory or a failed write. The line that says
-/// which goes to `err`, and a failed write has none. With status 2 nothing is written to `out`.
+/// The result is the exit status: 0 where all is done, 2 for words that are no size, an input that
+/// can't be read or a bad command, and 3 for refused memory or a failed write. A line on `err` says
+/// why, but for a failed write. With status 2 nothing is written to `out`.
 pub fn view_session<R: Read, O: Write, E: Write>(
     alloc: Global,
     args: &[String],

@@ -62,7 +62,7 @@ impl WatchEnd {
         }
     }
 
-    // Writes the line that says why, where none was written yet, and returns the exit status, which is that
+    // Writes the line that says why, where none was written yet, and returns the exit status: that
     // of a failed write where the line can't be written.
     fn report<E: Write>(self, err: &mut E) -> u8
         ensures { (result ≡ 2) ⊎ (result ≡ 3) }
@@ -80,13 +80,13 @@ impl WatchEnd {
 
 /// Prints to `out` what a viewer shows of the stream that `input` holds: after each answer, when it
 /// has come, where a word is `-a`, and else after the last one. No answer may have more cells than
-/// the number behind `--cells`, nor more bytes than the one behind `--bytes`. An answer that is
-/// stale is reported to `err`, and the run goes on.
+/// the number after `--cells`, nor more bytes than the one after `--bytes`. An answer that is stale
+/// is reported to `err`, and the run goes on.
 ///
-/// The result is the exit status: 0 where all is done and nothing was stale, 2 for an answer that
-/// was, for other words, an input that can't be read or a fault in the stream, and 3 for refused
-/// memory or a failed write. The line that says which goes to `err`, and a failed write has none.
-/// What came before is printed.
+/// The result is the exit status: 0 where all is done and nothing was stale, 2 for a stale answer,
+/// for other words, an input that can't be read or a fault in the stream, and 3 for refused memory
+/// or a failed write. A line on `err` says why, but for a failed write. What came before is
+/// printed.
 pub fn watch_session<R: Read, O: Write, E: Write>(
     alloc: Global,
     args: &[String],

@@ -77,7 +77,7 @@ pub(crate) fn whole(word: &str) -> Option<usize>
     word.parse().ok()
 }
 
-/// The same from 1 on.
+/// The number from 1 on that a word of decimal digits writes, which is at most 2^64 - 1.
 fn positive(word: &str) -> Option<usize>
     ensures { SomeIff result (IsPositive word.now) (value_of word.now) }
 {
@@ -96,7 +96,7 @@ pub fn dimensions(args: &[String]) -> Option<(usize, usize)>
     }
 }
 
-/// The words behind `-i`, where that is the first one.
+/// The words after `-i`, where that is the first one.
 pub fn interactive_words(args: &[String]) -> Option<&[String]>
     ensures { MatchOption result (IsInteractive args.now → ⊥)
         (λ words. IsInteractive args.now × (words.now ≡ drop 1 args.now)) }
@@ -107,8 +107,8 @@ pub fn interactive_words(args: &[String]) -> Option<&[String]>
     }
 }
 
-/// What the words of `surfsend` ask for: a width and a height, and in front of them a source's
-/// number behind `-s`, which is 1 otherwise.
+/// What the words of `surfsend` ask for: a width and a height, and before them `-s` and a source's
+/// number, which is 1 otherwise.
 pub fn send_options(args: &[String]) -> Option<SendOptions>
     ensures words { IsSome result ↔ AreSendWords args.now }
     ensures found { IfSome result (λ options.
@@ -132,8 +132,8 @@ pub fn send_options(args: &[String]) -> Option<SendOptions>
     }
 }
 
-/// What the words of `surfwatch` ask for, in any order: `-a`, and the limits behind `--cells` and
-/// `--bytes`, of which the second is 1 at least.
+/// What the words of `surfwatch` ask for, in any order: `-a`, and the limits after `--cells` and
+/// `--bytes`, of which the second is at least 1.
 pub fn watch_options(args: &[String]) -> Option<WatchOptions>
     ensures asked { IfSome result (λ options. AskFor first_options args.now options) }
     ensures some { IfSome result (λ options. 0 < options.limits.bytes) }
@@ -150,7 +150,7 @@ pub fn watch_options(args: &[String]) -> Option<WatchOptions>
 }
 
 impl WatchOptions {
-    // Takes the option at the front of the words, and returns the words behind it.
+    // Takes the option at the front of the words, and returns the words after it.
     fn take<'a>(&mut self, words: &'a [String]) -> Option<&'a [String]>
         ensures asked { IfSome result (λ rest. (p : WatchOptions) →
             AskFor self.new rest.now p → AskFor self.old words.now p) }

@@ -2,7 +2,7 @@
 use Rattle.std.proofs.Common.{◌≡◌, List, [], ◌∷◌, map, refl}
 use Rattle.std.specs.List.{AllZip}
 
--- where a clone is seen as its source is, so are the lists
+-- where each clone is seen as its source is, the lists are too
 pub map-clone : {A B : Type 0} (C : A → A → Type 0) (f : A → B) → ((x y : A) → C x y → f y ≡ f x) → (xs ys : List A) → AllZip C xs ys → map f ys ≡ map f xs
 map-clone C f same [] [] h = refl
 map-clone C f same [] (y ∷ ys) h = absurd h

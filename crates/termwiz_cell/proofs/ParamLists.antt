@@ -61,7 +61,7 @@ pub params_text-push : {A B : Type 0} (f : B → List ℕ × List ℕ) (g : A �
 params_text-push f g xs x separator is =
     ap (λ s. params_text (map f (map g xs)) ++ (s ++ pair_text (f (g x)))) is ∙ sym (params_text-cons f g xs x)
 
--- the keys of a map ascend, and so do their bytes
+-- the keys of a map ascend, by their bytes too
 keys-below : {A : Type 0} (key : String A) (es : List (String A × String A)) → AllByRecursion (λ k. string_cmp key k ≡ Less) (keys_of es) → AllByRecursion (λ k. slice_cmp nat_cmp (string_bytes key) k ≡ Less) (keys_of (map param_bytes es))
 keys-below key [] below = tt
 keys-below key (e ∷ es) below = (below.0, keys-below key es below.1)

@@ -109,7 +109,7 @@ option_link_eq-Decides (Some a) None = (λ e. cc, λ e. cc)
 option_link_eq-Decides (Some a) (Some b) =
     Decides-like (link_eq a b) (λ e i. Some (e i)) (λ e. cc) (link_eq-Decides a b)
 
--- the same attributes with default colours and no link
+-- these attributes with default colours and no link
 abbrev pub without_colors : Attributes → Attributes
 without_colors a =
     record a {
@@ -119,7 +119,7 @@ without_colors a =
       hyperlink = None;
     }
 
--- the same attributes with the semantic type Output, and no underline, overline, strike through and
+-- these attributes with the semantic type Output, and no underline, overline, strike through and
 -- link. All others are kept: intensity, blink, italic, reverse, invisible, wrapped, the vertical
 -- align and the three colours
 abbrev pub sgr_only : Attributes → Attributes

@@ -25,7 +25,7 @@ AreTexts params uri = IsUtf8 params × IsUtf8 uri
 abbrev pub HasPairs : List ℕ → Type 0
 HasPairs text = (pairs : List (List ℕ × List ℕ)) × SpellsPairs text pairs
 
--- they spell this link, and no other
+-- a params text and a uri spell this link, and no other
 pub record SpellsOnly (params uri : List ℕ) (link : Link) : Type 0 where
   pub spelled : SpellsLink params uri link
   pub only : (other : Link) → SpellsLink params uri other → other ≡ link

@@ -1,4 +1,5 @@
--- The clusters of visible cells, one behind another, have the texts, the columns and the bytes of these.
+-- The clusters of visible cells, one after another, have the texts, the columns and the bytes of
+-- these.
 use Rattle.std.proofs.Common.{◌≡◌, ℕ, ◌+◌, List, [], ◌∷◌, ◌++◌, map, refl, sym, ◌∙◌, ap, ap₂, append_assoc}
 use Rattle.termwiz_storage.specs.VisibleCell.{VisibleCell}
 use Rattle.std.specs.List.{flat_map}

@@ -12,7 +12,7 @@ pub data IsCutFrom {A : Type 0} (IsPiece : List A → Type 0) : List A → List 
   grows : {now xs : List A} {x : A} {ps : List (List A)} → IsPiece (now ++ x ∷ []) → IsCutFrom IsPiece (now ++ x ∷ []) xs ps → IsCutFrom IsPiece now (x ∷ xs) ps
   ends : {now xs : List A} {x : A} {ps : List (List A)} → (IsPiece (now ++ x ∷ []) → ⊥) → IsCutFrom IsPiece (x ∷ []) xs ps → IsCutFrom IsPiece now (x ∷ xs) (now ∷ ps)
 
--- a beginning of a piece is a piece, and so is one element
+-- a beginning of a piece is a piece, and one element is one too
 pub record AreClosed {A : Type 0} (IsPiece : List A → Type 0) : Type 0 where
   pub beginning : (p more : List A) → p ≢ [] → IsPiece (p ++ more) → IsPiece p
   pub single : (x : A) → IsPiece (x ∷ [])

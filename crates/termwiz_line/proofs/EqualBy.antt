@@ -24,7 +24,8 @@ AreEqualBy-grows f x y p e h = record { value = f x; all = All-push (λ z. f z �
 pub AreEqualBy-ends : {A K : Type 0} (f : A → K) (x y : A) (p : List A) → (f y ≡ f x → ⊥) → AreEqualBy f ((x ∷ p) ++ y ∷ []) → ⊥
 AreEqualBy-ends f x y p n h = n (All-last (λ z. f z ≡ f x) (x ∷ p) y (AreEqualBy-first f x (p ++ y ∷ []) h))
 
--- the same of a list that isn't empty, where `first` tells what f tells of the first element
+-- a piece that isn't empty grows or ends, where `first` gives of it what f gives of its first
+-- element
 module _ {A K : Type 0} (f : A → K) (first : List A → K) (first_is : (x : A) (xs : List A) → first (x ∷ xs) ≡ f x) where
   pub AreEqualBy-takes : (p : List A) (x : A) → p ≢ [] → f x ≡ first p → AreEqualBy f p → AreEqualBy f (p ++ x ∷ [])
   AreEqualBy-takes [] x s e h = absurd (s refl)

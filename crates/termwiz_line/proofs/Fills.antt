@@ -50,7 +50,7 @@ on_err (Err e) p = p
 
 -- ---- the form that is left
 
--- narrow cells behind the last one end where they were set
+-- narrow cells after the last one end where they were set
 length-appended : (n from : ℕ) (c : CellValue) (cs : List CellValue) → from ≡ length cs → (0 < n → is_wide c ≡ false) → from + n ≡ length (fill n from c cs)
 length-appended zero from c cs e w = let same : from + 0 ≡ from = omega arith in same ∙ e
 length-appended (suc n) from c cs e w =

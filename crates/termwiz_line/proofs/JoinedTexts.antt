@@ -1,4 +1,4 @@
--- Texts behind entries: they join the last one, or begin behind it.
+-- Texts after entries: they join the last one, or begin after it.
 use Rattle.std.proofs.Common.{◌≡◌, ℕ, ◌-◌, Bool, true, false, cond, ◌&&◌, List, [], ◌∷◌, ◌++◌, map, length, Option, Some, None, subst, refl, sym, ap, ◌∙◌, append_assoc, inl, inr}
 use Rattle.std.specs.Prelude.{IsTrue, ◌↔◌, slice_get}
 use Rattle.std.specs.Cmp.Lexicographic.{pointwise_decides, bytes_decides}
@@ -14,13 +14,13 @@ use Rattle.termwiz_line.specs.LastChange.{last_is}
 use Rattle.termwiz_line.specs.GrowingText.{ends_printable, with_text, IsLastOf}
 use Rattle.termwiz_line.proofs.LastChange.{last_pushed, last_of, last_of_none}
 
--- a text behind the last entry
+-- a text after the last entry
 pub add_text_push : (es : List ChangeValue) (e : ChangeValue) (text : List ℕ) → add_text (es ++ e ∷ []) text ≡ es ++ join e text
 add_text_push [] e text = refl
 add_text_push (d ∷ []) e text = refl
 add_text_push (d ∷ (c ∷ es)) e text = ap (λ l. d ∷ l) (add_text_push (c ∷ es) e text)
 
--- behind an entry that is no text, a text begins
+-- after an entry that is no text, a text begins
 join_apart : (e : ChangeValue) (text : List ℕ) → is_text e ≡ false → join e text ≡ e ∷ change.Text text ∷ []
 join_apart (change.Text t) text h = absurd (true≢false h)
 join_apart _ text h = refl
@@ -41,7 +41,7 @@ ends_more : (test : ChangeValue → Bool) (e : ChangeValue) (ds : List ChangeVal
 ends_more test e [] h = absurd (true≢false (sym h))
 ends_more test e (d ∷ ds) h = h
 
--- entries with a text behind them end in one
+-- entries with a text after them end in one
 pub ends_with_added : (es : List ChangeValue) (text : List ℕ) → last_is is_text (add_text es text) ≡ true
 ends_with_added [] text = refl
 ends_with_added (change.Text t ∷ []) text = elim (joins t text) as (λ b. last_is is_text (cond b (change.Text (t ++ text) ∷ []) (change.Text t ∷ change.Text text ∷ [])) ≡ true) [ true ↦ refl | false ↦ refl ]
@@ -80,7 +80,7 @@ joined es true text more new j e =
     ap (λ t. es ++ change.Text t ∷ []) e
     ∙ sym (add_text_push es (change.Text text) more ∙ ap (λ b. es ++ cond b (change.Text (text ++ more) ∷ []) (change.Text text ∷ change.Text more ∷ [])) j)
 
--- and one that begins behind it
+-- a text that begins after the growing one
 pub apart : (es : List ChangeValue) (grows : Bool) (text more : List ℕ) → (grows && joins text more) ≡ false → (grows ≡ false → last_is is_text es ≡ false) → with_text es grows text ++ change.Text more ∷ [] ≡ add_text (with_text es grows text) more
 apart es false text more j h = sym (add_text_apart es more (h refl))
 apart es true text more j h =

@@ -45,7 +45,7 @@ length-pruned n old new e used p = elim (cases_lt p.kept (length old)) [
   ]
 ]
 
--- so does that of narrow cells behind the last one
+-- narrow cells that are set after the last one stay
 length-pruned_narrow : (a b : ℕ) (c : CellValue) (old full new : List CellValue) → a < b → a ≡ length old → is_wide c ≡ false → c ≢ blank
     → IsFilledAs a b c old full → IsPruned full new → length new ≡ length full
 length-pruned_narrow a b c old full new l e narrow used f p =
@@ -64,7 +64,7 @@ shown-first (suc a) b c old full f =
     ] in
     ap (λ (v : Bool). v && not (hides full a)) before
 
--- and so does a wide one, whose half is hidden
+-- a wide cell that is set after the last one stays, with its half, which is hidden
 length-pruned_wide : (a b : ℕ) (c : CellValue) (old full new : List CellValue) → b ≡ suc a → a ≡ length old → is_wide c ≡ true
     → IsFilledAs a b c old full → IsPruned full new → length new ≡ length full
 length-pruned_wide a b c old full new one e wide f p =
@@ -82,7 +82,7 @@ length-pruned_wide a b c old full new one e wide f p =
       ]
     ]
 
--- cells that aren't default blanks stay behind the last one, and of wide ones a single one
+-- cells that aren't default blanks stay after the last one, and of wide ones a single one
 pub length-pruned_fill : (a b : ℕ) (c : CellValue) (old full new : List CellValue) → a < b → a ≡ length old → (is_wide c ≡ true → b ≡ suc a) → c ≢ blank
     → IsFilledAs a b c old full → IsPruned full new → length new ≡ length full
 length-pruned_fill a b c old full new l e single used f p = elim (cases_Bool (is_wide c)) [

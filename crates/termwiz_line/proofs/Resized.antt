@@ -22,7 +22,7 @@ length-missing_half cs = elim (cases_Bool (hides cs (length cs))) [
   | inr f ↦ rw (missing-none cs f) (omega arith)
 ]
 
--- the row at the end of the cells, behind it, and before it
+-- the row at the end of the cells, after it, and before it
 settled_end : (cs : List CellValue) (n : ℕ) → length cs ≡ n → get_or (missing_half cs) 0 blank ≡ settled_at cs n
 settled_end cs zero e =
     ap (λ l. get_or l 0 blank) (missing-none cs (ap (hides cs) e)) ∙ sym (get_or_past cs 0 blank (omega arith))

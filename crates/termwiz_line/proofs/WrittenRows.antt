@@ -168,7 +168,7 @@ pub spaces_in_text : (n : ℕ) (d : Penned) (a : Attributes) → last_is ends_pr
 spaces_in_text zero d a h e = (h, e)
 spaces_in_text (suc n) d a h e = spaces_in_text n (cell_out d (at_column 0 (blank_of a))) a (ends_with_plain (d.entries ++ pen_entry d.pen a) 32 refl) refl
 
--- rows behind other entries, which end in no text
+-- rows after other entries, which end in no text
 cell_behind : (es : List ChangeValue) (d : Penned) (p : VisibleCell) → last_is is_text es ≡ false → cell_out (behind es d) p ≡ behind es (cell_out d p)
 cell_behind es d p h =
     let pen = pen_entry d.pen p.cell.attrs in

@@ -100,7 +100,7 @@ pub record AreClusters (shown : List ℕ → Presentation × Option Presentation
   pub parts_are : AreCutInto IsWordOrSpaces runs parts
   pub clusters_are : clusters ≡ map (cluster_of shown) parts
 
--- the clusters, one behind another, have the texts of these visible cells, as many columns, and
+-- the clusters, one after another, have the texts of these visible cells, as many columns, and
 -- bytes of the same cells
 pub record JoinTo (cells : List VisibleCell) (clusters : List ClusterValue) : Type 0 where
   pub texts : flat_map (λ k. k.text) clusters ≡ texts_of cells

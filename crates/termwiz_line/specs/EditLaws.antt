@@ -8,6 +8,6 @@ use Rattle.termwiz_storage.specs.Stored.{visible}
 abbrev pub StoredAgainShows : Type 0
 StoredAgainShows = (cs : List CellValue) → visible (with_halves (visible cs)) ≡ visible cs
 
--- those that are taken out by all columns show what they showed
+-- visible cells that are taken out by all columns show what they showed
 abbrev pub AllColumnsShow : Type 0
 AllColumnsShow = (cs : List CellValue) → visible (columns_between 0 (length cs) cs) ≡ visible cs

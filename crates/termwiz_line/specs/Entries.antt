@@ -20,7 +20,7 @@ join (change.Text before) text =
     else change.Text before ∷ change.Text text ∷ []
 join entry text = entry ∷ change.Text text ∷ []
 
--- the entries with a text behind them
+-- the entries with a text after them
 abbrev pub add_text : List ChangeValue → List ℕ → List ChangeValue
 add_text [] text = change.Text text ∷ []
 add_text (e ∷ []) text = join e text
@@ -72,7 +72,7 @@ abbrev pub clear_entry : Attributes → List ChangeValue
 clear_entry a =
     if attributes_eq a default_attributes then [] else change.ClearToEndOfLine a.background ∷ []
 
--- what follows the entries d of the kept cells, where spaces with attributes a were left out behind
+-- what follows the entries d of the kept cells, where spaces with attributes a were left out after
 -- them
 abbrev pub with_tail : Penned → List VisibleCell → Attributes → Penned
 with_tail d kept a = record {

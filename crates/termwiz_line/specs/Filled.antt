@@ -39,8 +39,8 @@ pub record IsPartlyFilled (old : LineValue) (a b : ℕ) (c : CellValue) (seqno :
   pub within : count ≤ b - a
   pub fills : Fills old count a c seqno new
 
--- cells that aren't default blanks, set in the columns from a to b - 1, right behind the last cell
--- of a text, are appended to the text; of wide ones a single one
+-- cells that aren't default blanks, set in the columns from a to b - 1, directly after the last
+-- cell of a text, are appended to the text; of wide ones a single one
 abbrev pub AppendsCells : LineValue → ℕ → ℕ → CellValue → LineValue → Type 0
 AppendsCells old a b c new =
     old.is_vector ≡ false → a ≡ length old.cells → a < b → (is_wide c ≡ true → b ≡ suc a) →
@@ -50,7 +50,7 @@ AppendsCells old a b c new =
 pub record MakesVector (old : LineValue) (a b : ℕ) (c : CellValue) (new : LineValue) : Type 0 where
   -- default blanks
   pub blanks : c ≡ blank → a < b → old.cells ≢ [] → new.is_vector ≡ true
-  -- other cells, the first of them elsewhere than right behind the last cell
+  -- other cells, the first of them elsewhere than directly after the last cell
   pub first : c ≢ blank → a < b → a ≢ length old.cells → new.is_vector ≡ true
   -- other cells, wide and more than one
   pub second : c ≢ blank → suc a < b → is_wide c ≡ true → new.is_vector ≡ true

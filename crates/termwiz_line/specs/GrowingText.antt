@@ -6,7 +6,7 @@ use Rattle.termwiz_cell.specs.ChangeValue as change
 use Rattle.termwiz_cell.specs.ChangeValue.{ChangeValue, change_value}
 use Rattle.termwiz_line.specs.LastChange.{last_is}
 
--- the entries, and the text behind them while it grows
+-- the entries, and the text after them while it grows
 abbrev pub with_text : List ChangeValue → Bool → List ℕ → List ChangeValue
 with_text es grows text = if grows then es ++ change.Text text ∷ [] else es
 

@@ -26,11 +26,11 @@ pub record IsEdited (old : LineValue) (cells : List CellValue) (seqno : ℕ) (ne
   pub flags : new.flags ≡ old.flags
   pub vector : old.is_vector ≡ true → new.is_vector ≡ true
 
--- a cell that is set at column x, right behind the last one of a text, is appended to the text
+-- a cell that is set at column x, directly after the last one of a text, is appended to it
 abbrev pub AppendsAt : ℕ → LineValue → LineValue → Type 0
 AppendsAt x old new = old.is_vector ≡ false → x ≡ length old.cells → new.is_vector ≡ false
 
--- one that is set at a column x elsewhere makes a vector
+-- a cell that is set at a column x elsewhere makes a vector
 abbrev pub EditsElsewhere : ℕ → LineValue → LineValue → Type 0
 EditsElsewhere x old new = x ≢ length old.cells → new.is_vector ≡ true
 

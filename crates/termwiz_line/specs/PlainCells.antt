@@ -1,4 +1,4 @@
--- Bytes that have narrow cells of their own, one behind another.
+-- Bytes that have narrow cells of their own, one after another.
 use Rattle.std.specs.Prelude.{ℕ, ◌-◌, List, map}
 use Rattle.std.specs.List.{range_with_len}
 

@@ -12,7 +12,7 @@ use Rattle.termwiz_storage.specs.Wrapped.{set_last_wrapped}
 use Rattle.termwiz_line.specs.Filled.{taken}
 use Rattle.termwiz_line.specs.LineValue.{LineValue}
 
--- cells at their columns, each behind the last one, the first at column x
+-- cells at their columns, each directly after the one before it, the first at column x
 abbrev pub at_columns : ℕ → List CellValue → List VisibleCell
 at_columns x [] = []
 at_columns x (c ∷ cs) = at_column x c ∷ at_columns (x + columns c) cs

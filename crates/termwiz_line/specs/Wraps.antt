@@ -23,7 +23,7 @@ columns_taken (c ∷ cs) = columns c.cell + columns_taken cs
 abbrev pub FitsOrAlone : ℕ → List VisibleCell → Type 0
 FitsOrAlone width p = (columns_taken p ≤ width) ⊎ (length p ≡ 1)
 
--- the last cell is marked as wrapped: the text goes on behind it
+-- the last cell is marked as wrapped: the text goes on after it
 abbrev pub mark_last : List VisibleCell → List VisibleCell
 mark_last [] = []
 mark_last (c ∷ []) = record c { cell = with_wrapped true c.cell } ∷ []
@@ -38,7 +38,7 @@ marked_pieces (p ∷ q ∷ qs) = mark_last p ∷ marked_pieces (q ∷ qs)
 abbrev pub new_line : ℕ → List CellValue → LineValue
 new_line seqno cells = record { cells = cells; seqno = seqno; flags = no_flags; is_vector = true }
 
--- a new line of visible cells, the half of each wide one behind it
+-- a new line of visible cells, the half of each wide one after it
 abbrev pub line_of : ℕ → List VisibleCell → LineValue
 line_of seqno p = new_line seqno (with_halves p)
 

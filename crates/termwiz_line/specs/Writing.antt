@@ -9,13 +9,13 @@ use Rattle.termwiz_line.specs.LastChange.{last_is}
 use Rattle.termwiz_line.specs.GrowingText.{ends_printable}
 use Rattle.termwiz_line.specs.Entries.{Penned, cell_out, is_space_of, trimmed}
 
--- what is printed, and so many spaces with these attributes that are not
+-- what is printed, and how many spaces with which attributes are not
 pub record Writing : Type 0 where
   pub printed : Penned
   pub spaces : ℕ
   pub space_attrs : Attributes
 
--- the entries behind others
+-- the entries after others
 abbrev pub behind : List ChangeValue → Penned → Penned
 behind es d = record { entries = es ++ d.entries; pen = d.pen }
 

@@ -17,7 +17,7 @@ use Rattle.termwiz_screen.specs.TextScrolls.{down_scrolls, piece_scrolls, graphe
 use Rattle.termwiz_screen.specs.declared.print.Piece.{Piece}
 use Rattle.termwiz_screen.specs.declared.print.Piece.TheVariants.{CarriageReturn, LineFeed, CarriageReturnLineFeed, Cell}
 
--- a list without its first n elements, and as many default ones behind the others
+-- a list without its first n elements, and as many default ones after the others
 module _ {X : Type 0} (d : X) where
   abbrev pub up : ℕ → List X → List X
   up n xs = drop n xs ++ replicate (min n (length xs)) d
@@ -36,7 +36,7 @@ module _ {X : Type 0} (d : X) where
   drop_both (suc n) [] ys = let all : suc n ≡ suc n - 0 = omega arith in ap (λ k. drop k ys) all
   drop_both (suc n) (x ∷ xs) ys = let less : n - length xs ≡ suc n - suc (length xs) = omega arith in drop_both n xs ys ∙ ap (λ k. drop n xs ++ drop k ys) less
 
-  -- so many and then so many more
+  -- m rows up, and then n more
   up-up : (n m : ℕ) (xs : List X) → up n (up m xs) ≡ up (m + n) xs
   up-up n m xs =
       let h : ℕ = length xs in

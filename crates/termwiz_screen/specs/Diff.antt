@@ -60,7 +60,7 @@ need_upto a b r (suc i) =
 abbrev pub need : List (List CellValue) → List (List CellValue) → Region → List Print
 need a b r = need_upto a b r r.height
 
--- where the last cell ended: the cursor and the pen behind it
+-- where the last cell ended: the cursor and the pen after it
 pub record End : Type 0 where
   pub x : ℕ
   pub y : ℕ

@@ -1,4 +1,4 @@
--- The rows of a repaint as they are written, behind the first entries.
+-- The rows of a repaint as they are written, after the first entries.
 use Rattle.std.specs.Prelude.{◌≡◌, ℕ, Bool, false, List, Option, Some, None}
 use Rattle.termwiz_cell.specs.Attributes.{Attributes}
 use Rattle.termwiz_cell.specs.CellValue.{CellValue}
@@ -19,12 +19,12 @@ pub record IsBeforeRow (i : ℕ) (writer : Writing) : Type 0 where
   pub between : writer.spaces ≡ 0
   pub apart : i ≡ 0 → last_is is_text writer.printed.entries ≡ false
 
--- the last of these entries is no text, and clears no line, so that rows may be written behind them
+-- the last of these entries is no text, and clears no line, so that rows may be written after them
 pub record AreApart (first : List ChangeValue) : Type 0 where
   pub no_text : last_is is_text first ≡ false
   pub no_clear : (a : Attributes) → last_is (is_clear_of a) first ≡ false
 
--- the rows above row i are written behind these entries, and nothing of that row
+-- the rows above row i are written after these entries, and nothing of that row
 pub record IsWrittenUpto (first : List ChangeValue) (w : ℕ) (rows : List (List CellValue)) (i : ℕ)
     (writer : Writing) : Type 0 where
   pub printed : writer.printed ≡ behind first (rows_upto w rows i)

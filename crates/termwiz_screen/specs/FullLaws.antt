@@ -25,8 +25,8 @@ ChangesMakeFullScreens =
     full_screen (replay measure s changes) (replay_kept measure s k changes) ≡
     full_replay measure (full_screen s k) changes
 
--- what changes make of a full screen beside its screen: a title, a shape and a colour are set, and
--- so is the attribute of the cursor's row; scrolls move attributes with their rows, and added rows
+-- what changes make of a full screen beside its screen: a title, a shape, a colour and the
+-- attribute of the cursor's row are set; scrolls move attributes with their rows, and added rows
 -- have none; clears leave them; a text that scrolls n rows away takes their attributes along, those
 -- of the others go up with their rows, and the new rows at the bottom have none
 pub record FullStepsAre (measure : List ℕ → ℕ) (f : FullScreen) : Type 0 where
@@ -106,7 +106,7 @@ FullRepaintGivesScreen =
     length t.lines ≡ t.screen.height → HasFullSize t.screen.width t.screen.height f →
     full_replay measure f (full_repaint t) ≡ t
 
--- it has at most two entries for each column of each row, three more for each row, and seven more
+-- the full repaint has at most two entries for each cell, three more for each row, and seven more
 abbrev pub FullRepaintIsShort : Type 0
 FullRepaintIsShort =
     (t : FullScreen) → 0 < t.screen.height → length t.lines ≡ t.screen.height →

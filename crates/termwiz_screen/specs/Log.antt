@@ -39,7 +39,7 @@ flushed l n =
       changes = if reaches l n then due l n else l.changes;
     }
 
--- an empty log under the number that so many more changes would give it
+-- an empty log under the number that `count` more changes would give it
 abbrev pub passed : LogValue → ℕ → LogValue
 passed l count = record { first = next_number l + count; changes = [] }
 

@@ -117,7 +117,7 @@ abbrev pub is_nil : List ChangeValue → Bool
 is_nil [] = true
 is_nil (e ∷ es) = false
 
--- the cursor's place, where there are entries behind the first two or it isn't the first place
+-- the cursor's place, where there are entries after the first two or it isn't the first place
 abbrev pub cursor_entry : List ChangeValue → ℕ → ℕ → List ChangeValue
 cursor_entry es x y = if is_nil es && (x == 0 && y == 0) then [] else cursor_at x y ∷ []
 
@@ -170,7 +170,7 @@ full_entries title color lines =
     change.Title title ∷ change.CursorColor color ∷
     (lines_upto lines (length lines) ++ cursor_at 0 0 ∷ [])
 
--- and at its end: a visible cursor is shown, and the cursor gets its shape
+-- at the end of a full repaint: a visible cursor is shown, and the cursor gets its shape
 abbrev pub full_shown_entries : CursorVisibility → CursorShape → List ChangeValue
 full_shown_entries cursor.Visible shape =
     change.CursorVisibility cursor.Visible ∷ change.CursorShape shape ∷ []

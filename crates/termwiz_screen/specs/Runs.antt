@@ -13,8 +13,8 @@ use Rattle.termwiz_screen.specs.declared.print.Piece.TheVariants.{CarriageReturn
 abbrev pub AreNarrow : (List ℕ → ℕ) → List ℕ → Type 0
 AreNarrow measure run = All (λ b. measure (b ∷ []) ≤ 1) run
 
--- the text begins with this run of printable ASCII, which fits in so many columns: each of the run
--- is a grapheme by itself
+-- the text begins with this run of printable ASCII, which fits in this many columns: each of the
+-- run is a grapheme by itself
 pub record IsNarrowRun (measure : List ℕ → ℕ) (text : List ℕ) (columns : ℕ) (run rest : List ℕ) :
     Type 0 where
   pub whole : run ++ rest ≡ text
@@ -27,8 +27,8 @@ pub record IsNarrowRun (measure : List ℕ → ℕ) (text : List ℕ) (columns :
 abbrev pub AreWide : (List ℕ → ℕ) → List ℕ → Type 0
 AreWide measure letters = All (λ c. 1 < measure (encode_utf8 c)) letters
 
--- the text begins with this run of letters of two columns each, which fits in so many columns: each
--- of the run is a grapheme by itself
+-- the text begins with this run of letters of two columns each, which fits in this many columns:
+-- each of the run is a grapheme by itself
 pub record IsWideRun (measure : List ℕ → ℕ) (text : List ℕ) (columns : ℕ) (run rest : List ℕ) :
     Type 0 where
   pub whole : run ++ rest ≡ text

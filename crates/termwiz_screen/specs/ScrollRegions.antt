@@ -14,12 +14,12 @@ module _ {X : Type 0} (xs : List X) (a n : ℕ) where
   abbrev pub region_reversed : List X
   region_reversed = with_region (reverse region)
 
-  -- the first k elements of the region come behind its others
+  -- the first k elements of the region come after its others
   abbrev pub region_turned : ℕ → List X
   region_turned k = with_region (drop k region ++ take k region)
 
 module _ {X : Type 0} (d : X) (xs : List X) (a n k : ℕ) where
-  -- the region without its first k elements, and as many default ones behind the others
+  -- the region without its first k elements, and as many default ones after the others
   abbrev pub region_up : List X
   region_up = with_region xs a n (drop (min k n) (region xs a n) ++ replicate (min k n) d)
 

@@ -1,5 +1,5 @@
--- What a screen says as text: the texts of each row's visible cells within its stored length, each
--- row with a newline behind.
+-- What a screen says as text: the texts of each row's visible cells within its stored length, with
+-- a newline after each row.
 use Rattle.std.specs.Prelude.{ℕ, List, [], ◌∷◌, ◌++◌}
 use Rattle.termwiz_cell.specs.CellValue.{CellValue}
 use Rattle.termwiz_line.specs.Row.{visible_upto}

@@ -10,7 +10,7 @@ use Rattle.termwiz_screen.specs.declared.print.Piece.TheVariants.{CarriageReturn
 abbrev pub down_scrolls : Screen → ℕ
 down_scrolls s = if has_below s then 0 else 1
 
--- a line feed moves down, and so does a cell that wraps
+-- a line feed moves down, and a cell that wraps does too
 abbrev pub piece_scrolls : Screen → Piece → ℕ
 piece_scrolls s CarriageReturn = 0
 piece_scrolls s LineFeed = down_scrolls s

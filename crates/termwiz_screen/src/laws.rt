@@ -37,7 +37,7 @@ pub fn need_laws()
     ensures rows { NeedGivesRows }
 {}
 
-/// What the changes of a diff do when they are replayed, whoever made them.
+/// What the changes of a diff do when they are replayed, however they were made.
 pub fn diff_laws()
     ensures prints { PrintsAreDiff }
     ensures region_is { RegionIsDiff }

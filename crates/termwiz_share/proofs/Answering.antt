@@ -261,7 +261,7 @@ response_is f s t ask n given same alike asked a before after whole =
     let is_now : given ≡ given_for f (record { surface = t; number = s.number }) (number_asked s.number ask) = is ∙ ap₂ (λ (v : SurfaceValue _) (k : ℕ). given_for f (record { surface = v; number = s.number }) k) (sym same) (sym asked) in
     whole ∙ ap (λ (b : List ℕ). before ++ b) (ap (bytes_of f s) is_now ∙ ap (λ (v : SurfaceValue _). bytes_of f (record { surface = v; number = s.number }) (given_for f (record { surface = t; number = s.number }) (number_asked s.number ask))) (sym same))
 
--- the same of the surface that forgetting leaves
+-- the bytes of what is given are the response's, also of the surface that forgetting leaves
 pub response_of : {W : Type 0} (f : W → List ℕ → ℕ) (s : SourceValue W) (t : SurfaceValue W) (ask : Ask) (n : ℕ) (given : AnswerValue) → t ≡ trimmed s.surface → AnswersAlike s.surface t → (n ≡ 0) ⊎ ((ask.source ≡ s.number) × (n ≡ ask.number)) → Answers f s n given → (before after : List ℕ) → after ≡ before ++ answer (f s.surface.widths) (sent_by s.number given) → IsSent (f s.surface.widths) (sent_by s.number given) → Responds f (record { surface = t; number = s.number }) ask before after
 response_of f s t ask n given same alike from a before after whole sent =
     let bytes : List ℕ = answer (f s.surface.widths) (sent_by s.number given) in
@@ -278,7 +278,7 @@ pub stay : {A E : Type 0} (r : Result A E) (old new : List ℕ) → new ≡ old 
 stay (Ok x) old new same = tt
 stay (Err e) old new same = ([], same ∙ sym (append-nil old))
 
--- a response behind nothing stands alone
+-- a response after nothing stands alone
 pub alone_of : {W : Type 0} (f : W → List ℕ → ℕ) (s : SourceValue W) (ask : Ask) (before after : List ℕ) → Responds f s ask before after → before ≡ [] → IsResponse f s ask after
 alone_of f s ask before after r empty = subst (λ (b : List ℕ). IsResponse f s ask b) (sym (r.appended ∙ ap (λ (b : List ℕ). b ++ r.bytes) empty)) r.response
 

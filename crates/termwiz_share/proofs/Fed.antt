@@ -118,7 +118,7 @@ module _ (m : List ℕ → ℕ) (limits : Limits) (histories : ℕ → ℕ → F
       | false ↦ named
     ]
 
-  -- so are all of them
+  -- all answers of a list are taken so
   pub all_taken : (s : Shown) (given : List Given) → IsNamed histories s → AllByRecursion (IsGenuine m limits histories) given → (fold (taken m) s (map (λ (g : Given). g.sent) given) ≡ after_all s given) × IsNamed histories (after_all s given)
   all_taken s [] named each = (refl, named)
   all_taken s (g ∷ gs) named each =

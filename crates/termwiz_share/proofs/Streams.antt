@@ -26,14 +26,14 @@ nil_front [] b e = refl
 nil_front (x ∷ a) b e = cc
 
 module _ {T E : Type 0} (read : List ℕ → Result (T × List ℕ) E) where
-  -- the bytes are decoded to these values, one behind another, with these bytes left
+  -- the bytes are decoded to these values, one after another, with these bytes left
   abbrev pub Decodes : List ℕ → List T → List ℕ → Type 0
   Decodes bytes [] rest = bytes ≡ rest
   Decodes bytes (x ∷ xs) rest = (next : List ℕ) × (read bytes ≡ Ok (x, next)) × Decodes next xs rest
 
 module _ {T E : Type 0} (read : List ℕ → Result (T × List ℕ) E) (IsCut : E → Type 0) where
   module _ {G : Type 0} (encoded : G → List ℕ) (value_of : G → T) where
-    -- what is encoded of each is decoded again, whatever comes behind
+    -- the encoding of each is decoded again, whatever follows it
     abbrev pub AreAgain : List G → Type 0
     AreAgain [] = Unit {0}
     AreAgain (g ∷ gs) = ((rest : List ℕ) → read (encoded g ++ rest) ≡ Ok (value_of g, rest)) × AreAgain gs

@@ -90,7 +90,7 @@ module _ {W : Type 0} (f : W → List ℕ → ℕ) where
         settings = settings_then old mid new h.settings s.settings;
       }
 
-  -- so many answers are taken of the bytes of a client that takes more
+  -- `count` answers are taken of the bytes of a client that takes more
   pub record HasCounted (old : ClientValue W) (count : ℕ) (mid : ClientValue W) : Type 0 where
     pub has_taken : HasTaken f old mid
     pub counted : count ≡ length has_taken.given
@@ -125,7 +125,7 @@ pub some_bytes : (m : List ℕ → ℕ) (a : SentAnswer) → 0 < length (answer 
 unfolding answer head
 some_bytes m a = omega arith
 
--- so what is left behind it is shorter
+-- so what is left after it is shorter
 pub left_shorter : (m : List ℕ → ℕ) (a : SentAnswer) (bytes : List ℕ) (n : ℕ) → bytes ≡ answer m a ++ drop n bytes → length (drop n bytes) < length bytes
 left_shorter m a bytes n parts = omega (arith, ap length parts, length-append (answer m a) (drop n bytes), some_bytes m a)
 

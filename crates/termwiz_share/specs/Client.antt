@@ -45,11 +45,11 @@ module _ {W : Type 0} where
   abbrev pub shown_by : ClientValue W → Shown
   shown_by c = shown_on (display_of c)
 
-  -- what it asks by
+  -- the ask of a client
   abbrev pub ask_of : ClientValue W → Ask
   ask_of c = record { source = c.source; number = c.number }
 
-  -- no bytes are kept, and it takes more
+  -- the client keeps no bytes, and takes more
   pub record IsReady (c : ClientValue W) : Type 0 where
     pub kept : c.kept ≡ []
     pub reading : c.stopped ≡ None

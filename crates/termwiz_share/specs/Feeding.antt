@@ -20,7 +20,7 @@ use Rattle.termwiz_share.specs.declared.taken.Taken.{Taken}
 use Rattle.termwiz_share.specs.declared.taken.Taken.TheVariants as shows
 
 module _ (measure : List ℕ → ℕ) (limits : Limits) where
-  -- whoever shows s takes the answers that are decoded from the front of the bytes, one behind
+  -- a client that shows s takes the answers that are decoded from the front of the bytes, one after
   -- another, each in its size; t is shown then, and these bytes are left
   abbrev pub TakesAll : Shown → List ℕ → List SentAnswer → Shown → List ℕ → Type 0
   TakesAll s bytes [] t rest = (bytes ≡ rest) × (t ≡ s)
@@ -61,7 +61,7 @@ module _ {W : Type 0} where
   abbrev pub stopped_by : ClientValue W → ClientError → ClientValue W
   stopped_by c e = record c { stopped = Some e }
 
-  -- it has these bytes behind those that it had
+  -- it has these bytes after those that it had
   abbrev pub with_bytes : ClientValue W → List ℕ → ClientValue W
   with_bytes c piece = record c { kept = c.kept ++ piece }
 
@@ -155,7 +155,7 @@ module _ {W : Type 0} where
           (shown_by new) new.kept
       pub settings : SameSettings old new
 
-    -- how it ends after so many, where there is no next one, or that isn't taken
+    -- how it ends after `count` answers, where there is no next one, or that isn't taken
     abbrev pub Ends : ClientValue W → ℕ → Result ℕ ClientError → ClientValue W → Type 0
     Ends old count (Ok n) new = (n ≡ count) × Steps old (Ok None) new
     Ends old count (Err e) new = Steps old (Err e) new
@@ -167,7 +167,7 @@ module _ {W : Type 0} where
       pub has_taken : HasTaken old mid
       pub ends : Ends mid (length has_taken.given) result new
 
-    -- bytes are fed to it
+    -- bytes are fed to the client
     abbrev pub Feeds : ClientValue W → List ℕ → Result ℕ ClientError → ClientValue W → Type 0
     Feeds old piece result new =
         -- it takes none, since it has stopped before

@@ -36,7 +36,7 @@ abbrev pub after_all : Shown → List Given → Shown
 after_all s given = fold after s given
 
 module _ (measure : List ℕ → ℕ) where
-  -- the bytes of answers, one behind another
+  -- the bytes of answers, one after another
   abbrev pub stream : List Given → List ℕ
   stream given = flat_map (λ (g : Given). answer measure g.sent) given
 
@@ -67,8 +67,8 @@ module _ {W : Type 0} (measure_of : W → List ℕ → ℕ) (histories : ℕ →
     pub whole : c.kept ++ bytes ≡ stream (measure_of c.surface.widths) sent
     pub named : IsNamed histories (shown_by c)
 
-  -- so many are taken, and the client shows what the last one that fits was given for; of the
-  -- others there is no whole one
+  -- `count` answers are taken, and the client shows what the last one that fits was given for; of
+  -- the others there is no whole one
   pub record HasFollowed (future : List ℕ) (count : ℕ) (old new : ClientValue W) : Type 0 where
     pub given : List Given
     pub counted : count ≡ length given
@@ -79,8 +79,8 @@ module _ {W : Type 0} (measure_of : W → List ℕ → ℕ) (histories : ℕ →
     pub shows : shown_by new ≡ after_all (shown_by old) given
     pub named : IsNamed histories (shown_by new)
 
-  -- some are taken, and the client shows what the last one that fits was given for, or what it
-  -- shows has no number
+  -- some answers are taken, and the client shows what the last one that fits was given for, or what
+  -- it shows has no number
   pub record HasStopped (old new : ClientValue W) : Type 0 where
     pub given : List Given
     pub others : List Given
@@ -120,8 +120,8 @@ module _ {W : Type 0} (measure_of : W → List ℕ → ℕ) (histories : ℕ →
     pub shows : (shown_by new ≡ shown_by old) ⊎ (new.number ≡ 0)
     pub named : IsNamed histories (shown_by new)
 
-  -- the next one shows what it was given for, or doesn't fit, or isn't whole; and nothing but want
-  -- of memory or of numbers keeps it from being taken
+  -- the next answer shows what it was given for, or doesn't fit, or isn't whole; and nothing but
+  -- want of memory or of numbers keeps it from being taken
   abbrev pub FollowsNext :
       List ℕ → ClientValue W → Result (Option Taken) ClientError → ClientValue W → Type 0
   FollowsNext future old (Ok (Some shows.Shown)) new =

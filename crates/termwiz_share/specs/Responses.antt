@@ -9,7 +9,7 @@ abbrev pub chosen : Responses → Bool → List ℕ
 chosen r true = r.delta.items
 chosen r false = r.repaint.items
 
--- and those of the delta alone
+-- the bytes that are kept of the delta, or none of the repaint
 abbrev pub delta_part : Responses → Bool → List ℕ
 delta_part r true = r.delta.items
 delta_part r false = []

@@ -94,7 +94,7 @@ module _ {W : Type 0} where
     abbrev pub given_for : SourceValue W → ℕ → AnswerValue
     given_for s n = if has_delta s n then delta_of s.surface n else repaint_of s.surface
 
-    -- and for an ask, as bytes
+    -- the bytes that the source gives for an ask
     abbrev pub response_bytes : SourceValue W → Ask → List ℕ
     response_bytes s ask = bytes_of s (given_for s (number_asked s.number ask))
 
@@ -111,7 +111,7 @@ module _ {W : Type 0} where
       pub chosen : given ≡ given_for s n
       pub borne : IsBorne (sent_by s.number given)
 
-    -- its bytes come behind what the buffer had
+    -- its bytes come after what the buffer had
     pub record PutsAnswer (s : SourceValue W) (n : ℕ) (before after : List ℕ) : Type 0 where
       pub given : AnswerValue
       pub answers : Answers s n given
@@ -139,7 +139,7 @@ module _ {W : Type 0} where
       -- and bears it
       pub borne : IsBorne (sent_by s.number given)
 
-    -- the response comes behind what the buffer had
+    -- the response comes after what the buffer had
     pub record Responds (s : SourceValue W) (ask : Ask) (before after : List ℕ) : Type 0 where
       pub bytes : List ℕ
       pub appended : after ≡ before ++ bytes

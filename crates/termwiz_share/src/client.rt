@@ -1,4 +1,4 @@
-//! Clients: what takes the answers of sources, and shows what they had.
+//! Clients, which take the answers of sources and show what these had.
 ghost use Rattle.std.specs.Prelude.{◌≡◌, ◌<◌, ◌≤◌, ◌^◌, ◌++◌, [], IfOk, IfSome, IsSome, List, None};
 ghost use Rattle.std.specs.Prelude.{Ok, OnErr, OnOk, Some, drop, length, ℕ};
 ghost use Rattle.termwiz_wire.specs.Resuming.{LeadsOn};
@@ -29,7 +29,7 @@ use termwiz_wire::{
 ///
 /// It takes the bytes of a stream in whatever chunks they come. An answer is read whole before
 /// anything changes; one that is late, comes again, or is of another source than the one shown
-/// changes nothing, unless it is a repaint. Of its own surface it keeps no changes.
+/// changes nothing, unless it is a repaint. Its own surface keeps no changes.
 #[derive(Drop, Debug)]
 pub struct Client<W: Widths> {
     alloc: Global,
@@ -119,14 +119,14 @@ impl<W: Widths> Client<W> {
         self.display.number()
     }
 
-    /// Why the client takes no more bytes, if it is so.
+    /// Why the client takes no more bytes, or `None` where it takes them.
     pub fn stopped(&self) -> Option<ClientError>
         ensures { result ≡ self.now.stopped }
     {
         self.stopped
     }
 
-    /// What to send to a source, by which it answers.
+    /// The ask to send to a source, which says what the client shows.
     pub fn ask(&self) -> Ask
         ensures value { result ≡ ask_of self.now }
         ensures named { result.source ≡ 0 → result.number ≡ 0 }
@@ -137,18 +137,18 @@ impl<W: Widths> Client<W> {
         }
     }
 
-    /// Appends the bytes of what to send to a source to a buffer. After an error the buffer begins
-    /// with what it had.
+    /// Appends the bytes of the ask, as a source reads them, to a buffer. After an error the buffer
+    /// begins with what it had.
     pub fn encode_ask(&self, out: &mut Vec<u8>) -> Result<(), AllocError>
         ensures ok { OnOk result (out.new.items ≡ out.old.items ++ ask (ask_of self.now)) }
-        // It is one that is decoded again.
+        // What is appended can be decoded again.
         ensures form { OnOk result (IsAsk (ask_of self.now)) }
         ensures begins { OnErr result ((more : List ℕ) × (out.new.items ≡ out.old.items ++ more)) }
     {
         encode_ask(out, self.ask())
     }
 
-    /// Makes it ready for the bytes of a new connection. What it shows stays.
+    /// Makes the client ready for the bytes of a new connection. What it shows stays.
     pub fn reset(&mut self)
         ensures resets { self.new ≡ record self.old { kept = []; stopped = None } }
         ensures ready { IsReady self.new }
@@ -161,10 +161,10 @@ impl<W: Widths> Client<W> {
     }
 
     /// Takes the next bytes of the stream, in whatever chunks they come, and the answers that are
-    /// whole then. It returns how many those are; one that is stale and changes nothing counts too.
+    /// whole then. Returns how many those are; a stale one, which changes nothing, counts too.
     ///
-    /// Each of the errors says what it leaves. It is `keep`, and then `take_answer` until there is
-    /// none.
+    /// It does what `keep` does, and then calls `take_answer` until there is none. `ClientError`
+    /// says what each error leaves.
     pub fn feed(&mut self, piece: &[u8]) -> Result<usize, ClientError>
         // Whatever the bytes are.
         ensures feeds { Feeds (measure W.width_of) self.old piece.now result self.new }
@@ -199,11 +199,11 @@ impl<W: Widths> Client<W> {
         self.take_all()
     }
 
-    /// Keeps the next bytes of the stream behind those that it keeps, and takes no answer. Where
+    /// Keeps the next bytes of the stream after those that it has, and takes no answer. Where
     /// memory is refused it takes no more bytes, until `reset`.
     pub fn keep(&mut self, piece: &[u8]) -> Result<(), ClientError>
         ensures keeps { Keeps self.old piece.now result self.new }
-        // The stream that it follows goes on behind them.
+        // The stream that it follows goes on after them.
         ensures follows { (histories : ℕ → ℕ → FullScreen) (sent : List Given) (future : List ℕ) →
             Follows (measure W.width_of) histories sent self.old (piece.now ++ future) →
             OnOk result (Follows (measure W.width_of) histories sent self.new future) }
@@ -225,7 +225,7 @@ impl<W: Widths> Client<W> {
     /// Takes the next answer of the bytes that it keeps, or returns `None` where they make no whole
     /// one.
     ///
-    /// Each of the errors says what it leaves.
+    /// `ClientError` says what each error leaves.
     pub fn take_answer(&mut self) -> Result<Option<Taken>, ClientError>
         // Whatever the bytes are.
         ensures takes { TakesNext (measure W.width_of) self.old result self.new }
@@ -258,8 +258,8 @@ impl<W: Widths> Client<W> {
         self.take_next()
     }
 
-    /// Fails where a stream that ends here ends within an answer: once `take_answer` returns `None`,
-    /// nothing else is kept.
+    /// Fails with `Fault` where a stream that ends here ends within an answer. Where a whole answer
+    /// is kept it succeeds, so take all answers first.
     pub fn end(&self) -> Result<(), ClientError>
         ensures { EndsHere (measure W.width_of) self.now result }
     {

@@ -15,9 +15,9 @@ pub enum ClientError {
     /// The bytes have a fault. The client shows what it showed before the answer that has it.
     #[error("{0}")]
     Fault(Fault),
-    /// An answer leads on from what the client shows, but is for another size. Its width is at the
-    /// byte `at`, counted from the answer's first one, or where that is the same its height. The
-    /// client shows what it showed before.
+    /// An answer leads on from what the client shows, but is for another size. Its width begins at
+    /// the byte `at`, counted from the answer's first one, or its height where the width is the
+    /// same. The client shows what it showed before.
     #[error("size at {at}")]
     Size { at: usize },
     /// The numbers of the client's own surface would pass the greatest `usize`. It shows what it
@@ -27,10 +27,11 @@ pub enum ClientError {
     Numbers,
     /// Memory was refused.
     ///
-    /// - Where it was refused for the bytes, they are lost: each further call fails so, until
-    ///   `reset`.
+    /// - Where it was refused for the bytes, they are lost: each further call fails with this
+    ///   error, until `reset`.
     /// - Where it was refused for an answer, the bytes from that answer on are kept: `take_answer`
-    ///   and `feed(&[])` go on. The client shows what it showed, or it may show anything, without a number.
+    ///   and `feed(&[])` go on. The client shows what it showed, or may show anything, without a
+    ///   number.
     #[error("out of memory")]
     Memory,
 }

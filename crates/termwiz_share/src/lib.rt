@@ -1,8 +1,8 @@
 //! A screen that is shared: the two ends of a stream of answers, as values that read and write no
 //! file or socket.
 //!
-//! - A `Source` is a full surface with a number of its own. It answers what clients ask, and keeps
-//!   no changes that no answer needs.
+//! - A `Source` is a full surface with a number of its own. It answers the asks of clients, and
+//!   keeps no changes that no answer needs.
 //! - A `Client` shows what a source showed. It takes the bytes of answers in whatever chunks they
 //!   come, of many sources, late, repeated or in any order, and asks by what it shows.
 //!

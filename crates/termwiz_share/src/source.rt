@@ -21,10 +21,10 @@ use termwiz_surface::{LentChange, Scrollback, Surface, SurfaceError};
 use termwiz_wire::{Ask, SourceNo};
 
 /// A full surface that clients show, with a number that names it among all sources that a client
-/// may hear of: one of 64 random bits serves.
+/// may hear of: 64 random bits will do.
 ///
-/// Its log is kept short by itself: each call that changes the surface, and each response, forgets
-/// the changes that no answer needs.
+/// It keeps its log short: each call that changes the surface, and each response, forgets the
+/// changes that no answer needs.
 #[derive(Drop, Debug)]
 pub struct Source<W: Widths> {
     surface: Surface<W>,
@@ -92,7 +92,7 @@ impl<W: Widths> Source<W> {
         self.number
     }
 
-    /// Makes one change, as `Surface::add_change` does.
+    /// Applies one change, as `Surface::add_change` does.
     pub fn add_change(&mut self, change: Change) -> Result<SequenceNo, SurfaceError>
         ensures adds { Adds (measure W.width_of self.old.surface.widths)
             (trimmed self.old.surface) (change_value change ∷ [])
@@ -105,7 +105,7 @@ impl<W: Widths> Source<W> {
         self.surface.add_change(change)
     }
 
-    /// Makes the changes in order, as `Surface::add_changes` does.
+    /// Applies the changes in order, as `Surface::add_changes` does.
     pub fn add_changes(&mut self, changes: Vec<Change>) -> Result<SequenceNo, SurfaceError>
         ensures adds { Adds (measure W.width_of self.old.surface.widths)
             (trimmed self.old.surface) (map change_value changes.items)
@@ -119,7 +119,7 @@ impl<W: Widths> Source<W> {
         self.surface.add_changes(changes)
     }
 
-    /// Makes the changes in order, and moves the lines that they scroll off the top of the screen
+    /// Applies the changes in order, and moves the lines that they scroll off the top of the screen
     /// to the end of a scrollback, as `Surface::add_changes_scrolling` does.
     pub fn add_changes_scrolling(
         &mut self,
@@ -146,7 +146,8 @@ impl<W: Widths> Source<W> {
         self.surface.add_changes_scrolling(changes, scrollback)
     }
 
-    /// Makes copies of the changes in order, as `Surface::add_lent_changes` does.
+    /// Applies borrowed changes in order, of which it logs copies, as `Surface::add_lent_changes`
+    /// does.
     pub fn add_lent_changes(&mut self, changes: &[Change]) -> Result<SequenceNo, SurfaceError>
         ensures adds { Adds (measure W.width_of self.old.surface.widths)
             (trimmed self.old.surface) (map change_value changes.now)
@@ -160,7 +161,7 @@ impl<W: Widths> Source<W> {
         self.surface.add_lent_changes(changes)
     }
 
-    /// Makes the changes in order without logging them, as `Surface::add_unlogged` does.
+    /// Applies the changes in order without logging them, as `Surface::add_unlogged` does.
     pub fn add_unlogged(&mut self, changes: &[LentChange<'_>]) -> Result<SequenceNo, SurfaceError>
         ensures adds { AddsUnlogged (measure W.width_of self.old.surface.widths)
             self.old.surface (map lent_value changes.now)
@@ -173,9 +174,8 @@ impl<W: Widths> Source<W> {
         self.surface.add_unlogged(changes)
     }
 
-    /// Makes the changes in order without logging them, and moves the lines that they scroll off
-    /// the top of the screen to the end of a scrollback, as `Surface::add_unlogged_scrolling`
-    /// does.
+    /// Applies the changes in order without logging them, and moves the lines that they scroll off
+    /// the top of the screen to the end of a scrollback, as `Surface::add_unlogged_scrolling` does.
     pub fn add_unlogged_scrolling(
         &mut self,
         changes: &[LentChange<'_>],
@@ -283,7 +283,7 @@ impl<W: Widths> Source<W> {
             .draw_region(src_x, src_y, width, height, dest_x, dest_y)
     }
 
-    /// Takes another size, as `Surface::resize` does.
+    /// Resizes the surface, as `Surface::resize` does.
     pub fn resize(&mut self, width: usize, height: usize) -> Result<(), SurfaceError>
         requires size { IsSurfaceSize width height }
         ensures resizes { Resizes self.old.surface width height result self.new.surface }
@@ -294,8 +294,8 @@ impl<W: Widths> Source<W> {
         self.surface.resize(width, height)
     }
 
-    /// Forgets the changes before number `seq`, as `Surface::flush_changes_older_than` does: who
-    /// asks for them is given a repaint.
+    /// Forgets the changes before number `seq`, as `Surface::flush_changes_older_than` does: a
+    /// client that asks for them gets a repaint.
     pub fn flush_changes_older_than(&mut self, seq: SequenceNo)
         ensures flushes { self.new ≡ record self.old {
           surface = with_log self.old.surface (flushed self.old.surface.log seq);
@@ -307,10 +307,10 @@ impl<W: Widths> Source<W> {
         self.surface.flush_changes_older_than(seq);
     }
 
-    /// Appends the answer for an ask to a buffer: a delta, which has the changes from the ask's
-    /// number on, where the ask names this source, the log has these changes, the whole delta, its
-    /// head included, has at most 64 bytes and 4 for each cell, and the screen bears its changes
-    /// (see `termwiz_wire::is_borne`); and else a repaint, whose changes the screen bears too.
+    /// Appends the answer to an ask to a buffer. It is a delta, which has the changes from the
+    /// ask's number on, where the ask names this source, the log has these changes, the whole delta
+    /// has at most 64 bytes and 4 for each cell, and the screen bears its changes (see
+    /// `termwiz_wire::is_borne`). Otherwise it is a repaint, whose changes the screen bears too.
     ///
     /// The bytes of the delta and of the repaint that were given last stay in memory until the
     /// surface changes, and are copied where they are asked for again.
@@ -341,8 +341,8 @@ impl<W: Widths> Source<W> {
     }
 
     /// Writes the answer that `respond` appends to the front of a buffer, and returns its length in
-    /// bytes. Where the buffer is shorter it stays as it is: for the same ask the answer isn't made
-    /// anew while the surface stays as it is.
+    /// bytes. Where the buffer is too short it stays as it is, and the answer isn't made anew for
+    /// the same ask while the surface doesn't change.
     ///
     /// After an error the source and the buffer are as they were.
     pub fn respond_to(&mut self, ask: Ask, room: &mut [u8]) -> Result<usize, AllocError>

@@ -3,10 +3,10 @@
 /// What a client made of an answer that it took off its bytes.
 #[derive(Debug, Drop, Clone, Copy, PartialEq, Eq)]
 pub enum Taken {
-    /// It shows what the answer leads to.
+    /// The client shows what the answer leads to.
     Shown,
-    /// It shows what it showed: the answer is no repaint, and doesn't lead on from that, since it
-    /// is late, comes again, or is of another source. At the byte `at`, counted from the answer's
-    /// first one, begins its source, or where that is the one shown its base.
+    /// The client shows what it showed: the answer is no repaint, and doesn't lead on from that,
+    /// since it is late, comes again, or is of another source. At the byte `at`, counted from the
+    /// answer's first one, its source begins, or its base where the source is the one shown.
     Stale { at: usize },
 }

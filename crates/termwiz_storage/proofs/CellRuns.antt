@@ -33,7 +33,7 @@ attrs_of-copied (r ∷ rs) [] h = absurd h
 attrs_of-copied (r ∷ rs) (q ∷ qs) h =
     ap₂ (λ (xs ys : List Attributes). xs ++ ys) (ap₂ (λ (n : ℕ) (a : Attributes). replicate n a) h.0.1 h.0.0) (attrs_of-copied rs qs h.1)
 
--- a value in a run, and behind it
+-- a value in a run, and after it
 pub get_in_run : {X : Type 0} (n k : ℕ) (x : X) (ys : List X) → k < n → slice_get (replicate n x ++ ys) k ≡ Some x
 get_in_run zero k x ys l = absurd (omega arith)
 get_in_run (suc n) zero x ys l = refl

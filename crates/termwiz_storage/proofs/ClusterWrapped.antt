@@ -22,7 +22,7 @@ pub map_last-run : {X : Type 0} (f : X → X) (xs : List X) (m : ℕ) (x : X) �
 map_last-run f xs m x =
     rw (append-nil (replicate (m + 1) x), ← replicate_more m x, ← append_assoc xs (replicate m x) (x ∷ [])) (map_last-push f (xs ++ replicate m x) x)
 
--- the walk of a text that isn't empty ends at or behind its start
+-- the walk of a text that isn't empty ends at or after its start
 shown_after : (i : ℕ) (t : List ℕ) (s : Shape) (ss : List Shape) (a : Attributes) (ps : List Attributes) → length ss ≡ length ps → i ≤ last_index (shown_cells i t (s ∷ ss) (a ∷ ps))
 shown_after i t s [] a ps e = omega arith
 shown_after i t s (x ∷ ss) a [] e = absurd (omega arith)

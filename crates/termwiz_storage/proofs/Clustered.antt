@@ -14,7 +14,7 @@ use Rattle.termwiz_storage.specs.Stored.{visible_from, visible}
 use Rattle.termwiz_storage.specs.VisibleCell.{VisibleCell, at_column}
 use Rattle.termwiz_storage.proofs.Widths.{columns_bounds}
 
--- a cell with its half is one visible cell, and the walk goes on behind it
+-- a cell with its half is one visible cell, and the walk goes on after it
 visible_step : (b : Bool) (x : List ℕ) (a : Attributes) (i : ℕ) (cs : List CellValue) (shown : ℕ → List VisibleCell) → ((j : ℕ) → shown j ≡ visible_from j 0 cs) → at_column i (record { text = x; wide = b; attrs = a }) ∷ shown (i + columns (record { text = x; wide = b; attrs = a })) ≡ visible_from i 0 (with_half (record { text = x; wide = b; attrs = a }) ++ cs)
 visible_step true x a i cs shown h =
     let e : i + 2 ≡ i + 1 + 1 = omega arith in
@@ -50,7 +50,7 @@ cell_len_in_longer : (s : Shape) (t u : List ℕ) → cell_len s t ≤ length t 
 cell_len_in_longer s [] u h = not_one_char s.one_char s.bytes (char_len (get_or u 0 0)) h
 cell_len_in_longer s (y ∷ t) u h = refl
 
--- the cells of a text, and of another behind it
+-- the cells of a text, and of another after it
 pub cells_from-append : (t u : List ℕ) (ss rs : List Shape) (ps qs : List Attributes) → AreCuts t ss → length ss ≡ length ps → cells_from (t ++ u) (ss ++ rs) (ps ++ qs) ≡ cells_from t ss ps ++ cells_from u rs qs
 cells_from-append t u [] rs [] qs h e = rw h refl
 cells_from-append t u [] rs (p ∷ ps) qs h e = absurd (omega arith)

@@ -100,7 +100,7 @@ left-more a b i hidden next shown c cs out new all l m at s n o h =
     let here : left a b i hidden cs ≡ cond shown (with_half c) [] ++ left a b (i + 1) next cs = rw (d, s, n) (columns-more a b i hidden c (drop (i + 1) cs) l) in
     rw (o, append_assoc) (ap (λ xs. out ++ xs) (sym here) ∙ h)
 
--- the walk is behind the columns
+-- the walk is past the columns
 columns-none : (a b i s : ℕ) (cs : List CellValue) → b ≤ i → filter (begins_within a b) (visible_from i s cs) ≡ []
 columns-none a b i s [] l = refl
 columns-none a b i zero (c ∷ cs) l = elim (cases_Bool (nat_le a i)) [

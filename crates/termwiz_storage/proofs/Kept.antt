@@ -84,7 +84,7 @@ IsKept-ends cs e h =
 behind_blank : (x : ℕ) (cs : List CellValue) → stored cs x ≡ blank → hides cs (suc x) ≡ false
 behind_blank x cs e = rw e refl
 
--- a stored default blank is visible but right behind a wide cell
+-- a stored default blank is visible but directly after a wide cell
 shown_blank : (k x : ℕ) (cs : List CellValue) → IsUsedTo k cs → k < x → x < length cs → cell_at (visible cs) x ≡ Some blank
 shown_blank k zero cs u l m = absurd (omega arith)
 shown_blank k (suc x) cs u l m = cell_at-shown cs (suc x) m (behind_blank x cs (u.rest x (omega arith))) ∙ ap Some (u.rest (suc x) (omega arith))

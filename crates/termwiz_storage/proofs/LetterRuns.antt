@@ -17,7 +17,7 @@ set_letter-inside : (i : ℕ) (c : ℕ) (a : Attributes) (cs : List CellValue) �
 set_letter-inside i c a cs l =
     sym (set_cell-torn i (i + 2) (letter_cell c a) cs refl) ∙ ap (λ (ds : List CellValue). put i (letter_cell c a) (torn i ds)) (padded-long (i + 2) cs l)
 
--- behind a half nothing is torn
+-- after a half nothing is torn
 torn-behind_half : (i : ℕ) (cs : List CellValue) → is_wide (stored cs (i + 1)) ≡ false → torn (i + 2) cs ≡ cs
 torn-behind_half i cs n = let two : i + 1 + 1 ≡ i + 2 = omega arith in subst (λ k. torn k cs ≡ cs) two (torn-behind (i + 1) cs n)
 
@@ -83,7 +83,7 @@ used-put_letters u i (c ∷ ls) a cs h =
     let e : max (max (max u (i + 1 + 1)) (i + 1)) (i + 2 + 2 * length ls) ≡ max u (i + 2 * suc (length ls)) = omega arith in
     subst (λ n. IsUsedTo n (put_letters i (c ∷ ls) a cs)) e (used-put_letters (max (max u (i + 1 + 1)) (i + 1)) (i + 2) ls a (put i d cs) both)
 
--- the cells before and behind the letters stay
+-- the cells before and after the letters stay
 put_letters-right : (ls : List ℕ) (i j k : ℕ) (a : Attributes) (xs ys : List CellValue) → length xs ≡ i → k ≡ i + j → put_letters k ls a (xs ++ ys) ≡ xs ++ put_letters j ls a ys
 put_letters-right [] i j k a xs ys l e = refl
 put_letters-right (c ∷ ls) i j k a xs ys l e =

@@ -1,4 +1,4 @@
--- Runs of plain cells: what they make of a text, and what is left behind them.
+-- Runs of plain cells: what they make of a text, and what is left after them.
 use Rattle.std.proofs.Common.{◌≡◌, ℕ, zero, suc, ◌+◌, ◌<◌, ◌≤◌, ◌^◌, List, [], ◌∷◌, ◌++◌, length, take, drop, replicate, true, false, not, ◌&&◌, refl, ap, ap₂, sym, subst, ◌∙◌, append_assoc, add-zero, arith}
 use Rattle.std.specs.List.{list_all}
 use Rattle.std.proofs.lemmas.List.{append-nil}
@@ -95,7 +95,7 @@ pub has_plain_run : (cs : List CellValue) (t : List ℕ) (ss : List Shape) (ps :
 has_plain_run cs t ss ps n k a old p h e l f =
     subst (λ (j : ℕ). HasRun t ss ps j (n + k) a cs old) l (has_run cs t ss ps n (n + k) a old p h e (omega arith) f)
 
--- what is left behind plain cells
+-- what is left after plain cells
 pub whole_behind : (n : ℕ) (cs : List CellValue) (a : Attributes) → ArePlain a (take n cs) → IsWhole cs → IsWhole (drop n cs)
 whole_behind zero cs a p h = h
 whole_behind (suc n) [] a p h = h

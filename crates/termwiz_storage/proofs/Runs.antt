@@ -22,7 +22,7 @@ padded-long n cs l = let none : n - length cs ≡ 0 = omega arith in rw none (ap
 set_cell-inside : (i : ℕ) (b : ℕ) (a : Attributes) (cs : List CellValue) → i < length cs → set_cell i (plain_cell b a) cs ≡ set (torn i cs) i (plain_cell b a)
 set_cell-inside i b a cs l = sym (set_cell-torn i (i + 1) (plain_cell b a) cs refl) ∙ ap (λ (ds : List CellValue). set (torn i ds) i (plain_cell b a)) (padded-long (i + 1) cs (omega arith))
 
--- behind a narrow cell nothing is torn
+-- after a narrow cell nothing is torn
 pub torn-behind : (i : ℕ) (cs : List CellValue) → is_wide (stored cs i) ≡ false → torn (i + 1) cs ≡ cs
 torn-behind i cs n =
     let k : i + 1 - 1 ≡ i = omega arith in

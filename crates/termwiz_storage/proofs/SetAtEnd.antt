@@ -1,4 +1,4 @@
--- Setting a cell behind a list in which each wide cell is followed by its half.
+-- Setting a cell after a list in which each wide cell is followed by its half.
 use Rattle.std.proofs.Common.{◌≡◌, ℕ, zero, suc, ◌+◌, ◌-◌, List, [], ◌∷◌, ◌++◌, length, set, replicate, Bool, true, false, nat_lt, ◌&&◌, not, refl, ap, sym, ◌∙◌, arith, inl, inr}
 use Rattle.std.proofs.lemmas.List.{get_or_append_left}
 use Rattle.std.proofs.lemmas.Bool.{cases_Bool, cond-false}

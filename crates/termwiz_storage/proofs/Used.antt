@@ -92,7 +92,7 @@ fill-blanked a b cs new l p =
       ]
     ]))
 
--- a copy of the cells that were used, up to some length, and default blanks behind them
+-- a copy of the cells that were used, up to some length, and default blanks after them
 pub used-first : (v u have len : ℕ) (cs : List CellValue) → IsUsedTo v cs → have ≡ min len (length cs) → u ≡ min have v → padded have (take u cs) ≡ take len cs
 used-first v u have len cs h e f =
     let lu : length (take u cs) ≡ min u (length cs) = length-take u cs in

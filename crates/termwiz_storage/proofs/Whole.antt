@@ -83,7 +83,7 @@ whole-with_halves (p ∷ ps) = elim (cases_Bool (is_wide p.cell)) [
 pub whole-from : (cs : List CellValue) → with_halves (visible cs) ≡ cs → IsWhole cs
 whole-from cs e = subst IsWhole e (whole-with_halves (visible cs))
 
--- what a list that isn't empty begins with, and what is left behind it
+-- what a list that isn't empty begins with, and what is left after it
 pub record BeginsWhole (cs : List CellValue) (c : CellValue) : Type 0 where
   pub fits : columns c ≤ length cs
   pub some : 0 < columns c

@@ -18,7 +18,7 @@ ref_index r = (indexed_cell r).column
 abbrev pub ref_cell : CellRef → CellValue
 ref_cell r = (indexed_cell r).cell
 
--- its width: a piece of a text has the one that it was made with
+-- the width of a borrowed cell: a piece of a text has the one that it was made with
 abbrev pub ref_width : CellRef → ℕ
 ref_width (StoredRef i c) = columns c.now
 ref_width (ClusterRef i t w a) = w

@@ -12,7 +12,7 @@ use Rattle.termwiz_storage.specs.VisibleCell.{VisibleCell}
 abbrev pub removed : ℕ → List CellValue → List CellValue
 removed x cs = if nat_lt x (length cs) then remove (torn x cs) x else cs
 
--- the same, and a default blank at the end keeps the length
+-- the cell at column x is removed, and a default blank at the end keeps the length
 abbrev pub erased : ℕ → List CellValue → List CellValue
 erased x cs = if nat_lt x (length cs) then remove (torn x cs) x ++ blank ∷ [] else cs
 

@@ -1,4 +1,5 @@
--- What adding the list of a diff makes of a surface, with the cursor and the pen set back behind it or not.
+-- What adding the list of a diff makes of a surface, with the cursor and the pen set back after it
+-- or not.
 use Rattle.std.proofs.Common.{◌≡◌, ℕ, ◌+◌, ◌-◌, true, List, length, map, sym, ◌∙◌, subst}
 use Rattle.std.specs.Prelude.{Result, Ok, Err, OnOk, Vec, vec_len}
 use Rattle.std.specs.declared.alloc.Global.{Global}

@@ -1,4 +1,4 @@
--- A viewer that follows goes on to follow, whatever the surface does.
+-- A viewer that follows keeps following, whatever the surface does.
 use Rattle.std.proofs.Common.{◌≡◌, ℕ, ◌+◌, ◌-◌, ◌≤◌, inl, inr, true, false, List, length, drop, refl, sym, ap, subst, ◌∙◌, arith, length-append, length-drop}
 use Rattle.std.specs.Prelude.{Result, Ok, Err, OnOk, ◌==◌, ◌⊎◌, if◌then◌else◌}
 use Rattle.std.specs.Result.{is_err}
@@ -152,7 +152,7 @@ module _ {W : Type 0} (f : W → List ℕ → ℕ) where
     full = λ b. Leads-same full_screens (f s.widths) (full_of v.surface) (full_of s) v.last s.log (k b) n;
   }
 
-  -- so does one with no number
+  -- a viewer with no number follows
   pub Follows-none : (v : ViewerValue W) (s : SurfaceValue W) → f v.surface.widths ≡ f s.widths → v.last ≡ 0 → Follows f v s
   Follows-none v s w e = record {
     one_measure = w;
@@ -160,7 +160,7 @@ module _ {W : Type 0} (f : W → List ℕ → ℕ) where
     full = λ b. Leads-none full_screens (f s.widths) (full_of v.surface) (full_of s) v.last s.log e;
   }
 
-  -- a viewer that takes the surface's size goes on to follow
+  -- a viewer that takes the surface's size keeps following
   pub Follows-fitted : (old : ViewerValue W) (s : SurfaceValue W) (new : ViewerValue W) → Follows f old s → IsFitted old s new → Follows f new s
   Follows-fitted old s new h k = elim (cases_Bool (has_size_of old s)) [
     | inl e ↦ subst (λ (v : ViewerValue W). Follows f v s) (sym (k.same e)) h

@@ -1,4 +1,5 @@
--- What a surface, its viewers and the answers that are kept do is what the schedule for many viewers allows, and their numbers go on to name what they named.
+-- What a surface, its viewers and the answers that are kept do is what the schedule for many
+-- viewers allows, and their numbers still name what they named.
 use Rattle.std.proofs.Common.{◌≡◌, ℕ, ◌<◌, ◌≤◌, inl, inr, List, [], ◌∷◌, ◌++◌, length, replicate, refl, sym, ap, subst, ◌∙◌, arith}
 use Rattle.std.specs.Prelude.{get_or, set}
 use Rattle.std.proofs.lemmas.List.{length-map, length-replicate, get_or-map, get_or-replicate, get_or_default, map-append}

@@ -41,7 +41,7 @@ module _ {W : Type 0} where
     pub screen : screen_of t ≡ fold (print_one f) (screen_of s) gs
     pub kept : kept_of t ≡ kept_after f (screen_of s) (kept_of s) gs
 
--- characters are stored one behind another: the cell of each, and how many columns they take
+-- characters are stored one after another: the cell of each, and how many columns they take
 pub record IsRun (cell : ℕ → Attributes → CellValue) (store : ℕ → List ℕ → Attributes → List CellValue → List CellValue) (taken : List ℕ → ℕ) : Type 0 where
   pub none : (x : ℕ) (a : Attributes) (cs : List CellValue) → store x [] a cs ≡ cs
   pub none_taken : taken [] ≡ 0
@@ -148,7 +148,7 @@ module _ (f : List ℕ → ℕ) (piece : ℕ → List ℕ) (cell : ℕ → Attri
     one-here : one_touches f s (piece b) j ≡ cursor_row s j
     one-here = rw (first.is_text, settled) refl
 
-    -- the first character, and those behind it
+    -- the first character, and those after it
     run-first : touched_by f s (map piece (b ∷ bs)) j ≡ (cursor_row s j || touched_by f (put_at_cursor s (cell b s.pen)) (map piece bs) j)
     run-first = ap₂ (λ (u : Bool) (z : Screen). u || touched_by f z (map piece bs) j) one-here one-puts
 

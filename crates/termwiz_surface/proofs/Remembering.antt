@@ -1,4 +1,5 @@
--- Whatever a surface does, its numbers go on to name what they named; and answers lead to what their numbers name.
+-- Whatever a surface does, its numbers still name what they named; and answers lead to what their
+-- numbers name.
 use Rattle.std.proofs.Common.{◌≡◌, ℕ, ◌+◌, ◌-◌, ◌≤◌, ◌<◌, inl, inr, true, false, Bool, List, [], ◌∷◌, ◌++◌, length, take, drop, refl, sym, ap, subst, ◌∙◌, arith, length-append}
 use Rattle.std.specs.Prelude.{Result, Ok, Err, OnOk, OnErr, ◌==◌, not, nat_le, if◌then◌else◌, fold}
 use Rattle.std.specs.Result.{is_err}

@@ -182,7 +182,7 @@ module _ {W : Type 0} where
   pub some-all : (all left : ℕ → Bool) (r s : SurfaceValue W) → ((j : ℕ) → left j ≡ false) → MarksSome all left r s → MarksRows all r s
   some-all all left r s none m = marks-alike m.done all r s (λ j. m.both j ∙ ap (λ b. m.done j || b) (none j) ∙ or-false (m.done j)) m.marks
 
--- the rows before and behind a region
+-- the rows before and after a region
 abbrev pub IsOutside : ℕ → ℕ → ℕ → Type 0
 IsOutside a n j = (j < a) ⊎ (a + n ≤ j)
 
@@ -206,7 +206,7 @@ module _ {X : Type 0} (d : X) (xs : List X) (a n k j : ℕ) (e : X) (inside : a 
   pub down-outside : get_or (region_down d xs a n k) j e ≡ get_or xs j e
   down-outside = region-outside xs _ a n j e inside (simp (length-append, length-drop, length-take, length-replicate) (omega arith)) out
 
--- of so many rows the test holds for those from a on, n of them
+-- of `height` rows the test holds for the n rows from row a on, and for no other
 pub record AreRange (touched : ℕ → Bool) (height a n : ℕ) : Type 0 where
   pub each : (j : ℕ) → j < height → ((touched j ≡ true) × (a ≤ j) × (j < a + n)) ⊎ ((touched j ≡ false) × IsOutside a n j)
 

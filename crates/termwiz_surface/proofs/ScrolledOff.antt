@@ -58,7 +58,7 @@ module _ (w : ℕ) where
         rows_are = first.rows_are ∙ ap (λ (t : List ShownRow). a ++ t) second.rows_are ∙ sym (append_assoc a b r) ∙ ap (λ (t : List ShownRow). t ++ r) (sym (map-append (line_shown w) first.lines second.lines));
       }
 
-  -- others may be left behind
+  -- further rows may be left
   leaves-before : (p q r : List ShownRow) (u v : List LineValue) → LeavesRows w p q u v → LeavesRows w (p ++ r) (q ++ r) u v
   leaves-before p q r u v leaves = record {
     lines = leaves.lines;
@@ -119,7 +119,7 @@ module _ (f : List ℕ → ℕ) where
     | inr last ↦ rw (is_text, last, stays) refl
   ]
 
-  -- one grapheme, and those behind it
+  -- one grapheme, and those after it
   pub behind-one : (s t : Screen) (k m : Kept) (g : List ℕ) (gs hs : List (List ℕ)) → gs ≡ g ∷ hs → t ≡ print_one f s g → m ≡ one_kept f s g k → left_behind_first f s k gs ≡ left_by f t m hs
   behind-one s t k m g gs hs e is kept = ap (left_behind_first f s k) e ∙ ap₂ (λ (z : Screen) (n : Kept). left_by f z n hs) (sym is) (sym kept)
 
@@ -139,11 +139,11 @@ module _ (f : List ℕ → ℕ) where
         (ap (λ (z : Screen). left_by f z m (map piece bs)) one
         ∙ run-stays bs (put_at_cursor s (cell b s.pen)) m (omega (arith, run.more_taken b bs s.pen)) (λ j d l. prints (suc j) d (omega arith)))
 
-    -- nor do those behind the first one that is put here
+    -- nor do those after the first one that is put here
     put-stays : (b : ℕ) (bs : List ℕ) (s : Screen) (k : Kept) → s.x + taken (b ∷ bs) ≤ s.width → All (λ b. PrintsCell f s.pen (piece b) (cell b s.pen)) (b ∷ bs) → left_by f (put_at_cursor s (cell b s.pen)) k (map piece bs) ≡ []
     put-stays b bs s k fits prints = run-stays bs (put_at_cursor s (cell b s.pen)) k (omega (arith, run.more_taken b bs s.pen)) (λ j d l. prints (suc j) d (omega arith))
 
-    -- nor those behind one that may wrap first
+    -- nor those after one that may wrap first
     rest-stays : (b : ℕ) (bs : List ℕ) (s : Screen) (k : Kept) → taken (b ∷ bs) ≤ columns_left s → All (λ b. PrintsCell f s.pen (piece b) (cell b s.pen)) (b ∷ bs) → left_by f (print_one f s (piece b)) k (map piece bs) ≡ []
     rest-stays b bs s k fits prints =
         let first : PrintsCell f s.pen (piece b) (cell b s.pen) = prints 0 0 (omega arith) in
@@ -161,7 +161,7 @@ module _ (f : List ℕ → ℕ) where
               ∙ put-stays b bs s k (omega (arith, run.more_taken b bs s.pen)) prints
         ]
 
-    -- a run of them, and what is behind it
+    -- a run of them, and what follows it
     pub behind-run : (bs : List ℕ) (s t : Screen) (k m : Kept) (gs hs : List (List ℕ)) → 0 < length bs → taken bs ≤ columns_left s → All (λ b. PrintsCell f s.pen (piece b) (cell b s.pen)) bs → gs ≡ map piece bs ++ hs → t ≡ fold (print_one f) s (map piece bs) → m ≡ kept_after f s k (map piece bs) → left_behind_first f s k gs ≡ left_by f t m hs
     behind-run [] s t k m gs hs some fits prints e is kept = absurd (omega arith)
     behind-run (b ∷ bs) s t k m gs hs some fits prints e is kept =
@@ -520,7 +520,7 @@ module _ {W : Type 0} (f : List ℕ → ℕ) (r : SurfaceValue W) (all : List Ch
     pub part-fits : region_fits s.height c ≡ true
     part-fits = ap (λ (h : ℕ). region_fits h c) p.frame.height ∙ (and_parts (region_fits r.height c) (regions_fit r.height left) p.fit).0
 
-    -- what the change scrolls off, and what those behind it do
+    -- what the change scrolls off, and what those after it do
     rows_left : (t : SurfaceValue W) → Becomes s (step f (screen_of s) c) (step_kept f (screen_of s) (kept_of s) c) (touches f (screen_of s) c) t → rows_scrolled_off f (screen_of s) (kept_of s) (c ∷ left) ≡ left_step f (screen_of s) (kept_of s) c ++ rows_scrolled_off f (screen_of t) (kept_of t) left
     rows_left t b = ap₂ (λ (z : Screen) (k : Kept). left_step f (screen_of s) (kept_of s) c ++ rows_scrolled_off f z k left) (sym b.screen_is) (sym b.kept_is)
 

@@ -21,7 +21,7 @@ or_assoc false b c = refl
 -- ---- texts
 
 module _ (f : List ℕ → ℕ) where
-  -- graphemes, and others behind them
+  -- graphemes, and others after them
   pub touched_by-append : (s : Screen) (gs hs : List (List ℕ)) (j : ℕ) → touched_by f s (gs ++ hs) j ≡ (touched_by f s gs j || touched_by f (fold (print_one f) s gs) hs j)
   touched_by-append s [] hs j = refl
   touched_by-append s (g ∷ gs) hs j =

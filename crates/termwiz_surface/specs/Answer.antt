@@ -65,7 +65,7 @@ pub record Carries {P : Type 0} (pictures : Pictures P) (measure : List ℕ → 
   pub delta :
       (a.base ≡ 0 → ⊥) → (a.base ≤ a.number) × (played pictures measure (past a.base) a.changes ≡ p)
 
--- it brings any picture of its size to the surface's
+-- the answer brings any picture of its size to the surface's
 abbrev pub is_repaint : AnswerValue → Bool
 is_repaint a = a.base == 0
 

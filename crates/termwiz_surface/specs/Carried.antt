@@ -10,10 +10,10 @@ module _ {P : Type 0} (pictures : Pictures P) {W : Type 0} (measure_of : W → L
   abbrev pub IsPastOf : (ℕ → P) → SurfaceValue W → Type 0
   IsPastOf past s = IsPast pictures (measure_of s.widths) past (pictures.shown (full_of s)) s.log
 
-  -- it gives this answer for number n
+  -- the surface gives this answer for number n
   abbrev pub IsGivenBy : SurfaceValue W → ℕ → AnswerValue → Type 0
   IsGivenBy s n a = IsGiven pictures (measure_of s.widths) (pictures.shown (full_of s)) s.log n a
 
-  -- the answer leads to what it shows
+  -- the answer leads to what the surface shows
   abbrev pub CarriesTo : (ℕ → P) → AnswerValue → SurfaceValue W → Type 0
   CarriesTo past a s = Carries pictures (measure_of s.widths) past a (pictures.shown (full_of s))

@@ -17,7 +17,7 @@ drawn_region a b x y =
     cut (record { x = x; y = y; width = b.width; height = b.height; other_x = 0; other_y = 0 })
     a.width a.height b.width b.height
 
--- where w columns and h rows of a come that are copied to column x and row y of it
+-- the region of a of w columns and h rows that is copied to column x and row y
 abbrev pub copied_region : Screen → ℕ → ℕ → ℕ → ℕ → ℕ → ℕ → Region
 copied_region a from_x from_y w h x y =
     cut (record { x = x; y = y; width = w; height = h; other_x = from_x; other_y = from_y }) a.width
@@ -44,8 +44,8 @@ module _ {W : Type 0} where
     pub same : new ≡ old
 
   -- a surface is drawn from a column and a row on: what it shows there and the old one doesn't is
-  -- printed by the diff of that region, and where anything is, the cursor and the pen are set as
-  -- they were behind it
+  -- printed by the diff of that region, and where anything is, the cursor and the pen are restored
+  -- after it
   abbrev pub IsDrawn :
       (W → List ℕ → ℕ) → SurfaceValue W → SurfaceValue W → ℕ → ℕ → Result ℕ SurfaceError →
       SurfaceValue W → Type 0
@@ -55,7 +55,7 @@ module _ {W : Type 0} where
       (restoring old.x old.y old.pen) old result new
       ⊎ AddsNothing old result new
 
-  -- a region of a surface is copied within it, by the diff of the two regions and nothing behind it
+  -- a region of a surface is copied within it, by the diff of the two regions and nothing after it
   abbrev pub IsCopied :
       (W → List ℕ → ℕ) → SurfaceValue W → ℕ → ℕ → ℕ → ℕ → ℕ → ℕ → Result ℕ SurfaceError →
       SurfaceValue W → Type 0
@@ -66,7 +66,7 @@ module _ {W : Type 0} where
       ⊎ AddsNothing old result new
 
   -- a region of a surface is copied within it, and where anything is printed, the cursor and the
-  -- pen are set as they were behind it
+  -- pen are restored after it
   abbrev pub IsRegionDrawn :
       (W → List ℕ → ℕ) → SurfaceValue W → ℕ → ℕ → ℕ → ℕ → ℕ → ℕ → Result ℕ SurfaceError →
       SurfaceValue W → Type 0

@@ -51,7 +51,7 @@ module _ {W : Type 0} where
 abbrev pub rows_of : {L : Type 0} → ℕ → List L → (L → List CellValue) → List (List CellValue)
 rows_of w lines cells_in = map (λ line. row_of w (cells_in line)) lines
 
--- the whole rows of a from the top with which so many lines are compared
+-- the whole rows of a from the top with which n lines are compared
 abbrev pub top_rows : Screen → ℕ → Region
 top_rows a n = band a.width 0 0 (min a.height n)
 
@@ -65,7 +65,7 @@ abbrev pub PrintsRows :
 PrintsRows measure a rows r changes =
     IsDiff measure a (measure ≡ measure) (need a.rows rows r) changes
 
--- so many rows from the top are those of b, and the others are as in a
+-- the first n rows from the top are those of b, and the others are as in a
 abbrev pub HaveTopRows :
     List (List CellValue) → List (List CellValue) → List (List CellValue) → ℕ → Type 0
 HaveTopRows t a b n =

@@ -52,7 +52,7 @@ module _ {W : Type 0} where
     pub full :
         s.full ≡ true → FullLeads (measure_of s.widths) (full_of v.surface) v.last (full_of s) s.log
 
-  -- each viewer that followed the surface as it was goes on to follow it
+  -- each viewer that followed the surface as it was still follows it
   abbrev pub KeepsViewers : (W → List ℕ → ℕ) → SurfaceValue W → SurfaceValue W → Type 0
   KeepsViewers measure_of old new =
       (v : ViewerValue W) → Follows measure_of v old → Follows measure_of v new
@@ -61,7 +61,7 @@ module _ {W : Type 0} where
   abbrev pub blank_viewer : SurfaceValue W → ViewerValue W
   blank_viewer s = record { surface = blank_surface s.widths s.width s.height s.full; last = 0 }
 
-  -- such a viewer, whose surface has this number
+  -- a blank viewer whose surface has this number
   abbrev pub blank_viewer_from : SurfaceValue W → ℕ → ViewerValue W
   blank_viewer_from s number =
       record { surface = blank_surface_from s.widths s.width s.height s.full number; last = 0 }

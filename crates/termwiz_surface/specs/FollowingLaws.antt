@@ -31,7 +31,7 @@ module _ {P : Type 0} (pictures : Pictures P) where
       LeadsTo pictures measure v n p log →
       Brings pictures measure p log n changes → played pictures measure v changes ≡ p
 
-  -- what is flushed no viewer needs that is led
+  -- a viewer that is led needs nothing that is flushed
   abbrev pub FlushesKeepLeading : Type 0
   FlushesKeepLeading =
       (measure : List ℕ → ℕ) (v p : P) (n k : ℕ) (log : LogValue) →

@@ -8,7 +8,7 @@ use Rattle.termwiz_surface.specs.History.{Names, IsPast, GoesOn}
 use Rattle.termwiz_screen.specs.Log.{LogValue, next_number, appended, flushed, restarted}
 use Rattle.termwiz_screen.specs.Picture.{Pictures, played}
 
--- what was named is named still
+-- what a number named it still names
 abbrev pub NamesStay : Type 0 → Type 0
 NamesStay P =
     (past later : ℕ → P) (n : ℕ) (p : P) → later n ≡ past n → Names past n p → Names later n p
@@ -44,7 +44,7 @@ module _ {P : Type 0} (pictures : Pictures P) where
       IsPast pictures measure past p log →
       GoesOn pictures measure past (next_number log) q (appended log changes)
 
-  -- a flush changes nothing of it
+  -- a flush changes nothing of what numbers named
   abbrev pub FlushesKeepPast : Type 0
   FlushesKeepPast =
       (measure : List ℕ → ℕ) (past : ℕ → P) (p : P) (n : ℕ) (log : LogValue) →
@@ -72,8 +72,8 @@ module _ {P : Type 0} (pictures : Pictures P) where
       IsPast pictures measure past p log → IsGiven pictures measure p log n a →
       Carries pictures measure past a p
 
-  -- whoever shows what its number names, in the answer's size, and makes the changes of one that
-  -- isn't stale has the picture that the surface had when it gave it
+  -- a viewer that shows what its number names, in the answer's size, and makes the changes of an
+  -- answer that isn't stale has the picture that the surface had when it gave the answer
   abbrev pub CarriedLead : Type 0
   CarriedLead =
       (measure : List ℕ → ℕ) (past : ℕ → P) (a : AnswerValue) (p v : P) (n : ℕ) →

@@ -31,7 +31,7 @@ pub record ManyState (W : Type 0) : Type 0 where
   pub answers : List Held
   pub viewers : List (ViewerValue W)
 
--- a blank surface of this size, no full one, and so many blank viewers of it
+-- a blank surface of this size, no full one, and n blank viewers of it
 abbrev pub first_many : {W : Type 0} → W → ℕ → ℕ → ℕ → ManyState W
 first_many widths w h n =
     let s = blank_surface widths w h false in

@@ -82,7 +82,7 @@ module _ {W : Type 0} where
         Carries screens (measure_of old.surface.widths) past a s →
         Names past old.last (screen_of old.surface) → Names past new.last (screen_of new.surface)
 
-  -- the schedule allows the event's outcome, and the numbers go on to name what they named
+  -- the schedule allows the event's outcome, and the numbers still name what they named
   pub record Serves (measure_of : W → List ℕ → ℕ) (s : SurfaceValue W)
       (viewers : List (ViewerValue W)) (held : List Held) (event : ManyEvent W)
       (outcome : ManyOutcome) (t : SurfaceValue W) (after : List (ViewerValue W))

@@ -14,7 +14,7 @@ pub record AreMarked (a n number : ℕ) (old new : List ℕ) : Type 0 where
   pub outside :
       (j : ℕ) → (j < a) ⊎ (a + n ≤ j) → slice_index_or new j 0 ≡ slice_index_or old j 0
 
--- these are the numbers of so many rows: from index a on each is this one, unless it was greater,
+-- these are the numbers of `height` rows: from index a on each is this one, unless it was greater,
 -- and the others stay; a row that is new had 0
 pub record AreRenewed (height a number : ℕ) (old new : List ℕ) : Type 0 where
   pub count : length new ≡ height

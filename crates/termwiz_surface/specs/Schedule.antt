@@ -133,7 +133,7 @@ abbrev pub IsSchedule :
 IsSchedule measure_of widths w h events outcomes =
     IsScheduleOf false measure_of widths w h events outcomes
 
--- of a full surface
+-- the outcomes are those that a schedule allows on a full surface
 abbrev pub IsFullSchedule :
     {W : Type 0} → (W → List ℕ → ℕ) → W → ℕ → ℕ → List (Event W) → List Outcome → Type 0
 IsFullSchedule measure_of widths w h events outcomes =

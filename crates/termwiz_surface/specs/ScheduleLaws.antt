@@ -50,7 +50,7 @@ module _ {W : Type 0} (measure_of : W → List ℕ → ℕ) where
       Allows measure_of s v Follow (Followed n changes screen) t u →
       LeadOn screens s v (map change_value changes.items) (screen_value screen) u
 
-  -- and of a full surface to the full screen
+  -- the changes of an outcome lead to the full screen, where the surface is a full one
   abbrev pub FollowedFullLeadOn : Type 0
   FollowedFullLeadOn =
       (s t : SurfaceValue W) (v u : ViewerValue W) (n : ℕ) (changes : Vec Change Global)
@@ -58,7 +58,7 @@ module _ {W : Type 0} (measure_of : W → List ℕ → ℕ) where
       Allows measure_of s v Follow (FollowedFull n changes picture) t u →
       LeadOn full_screens s v (map change_value changes.items) (full_value picture) u
 
-  -- for want of numbers: what was due, or a repaint, would pass the greatest
+  -- a follow lacks numbers where what was due, or a repaint, would pass the greatest one
   abbrev pub LackNumbers : Type 0
   LackNumbers =
       (s t : SurfaceValue W) (v u : ViewerValue W) →
@@ -67,7 +67,7 @@ module _ {W : Type 0} (measure_of : W → List ℕ → ℕ) where
       (2 ^ 64 ≤ number_in_size v s +
       (if knows s v.last then length (due s.log v.last) else most_own_entries s))
 
-  -- for want of memory: what was due would not
+  -- a follow lacks memory where what was due would not pass the greatest number
   abbrev pub LackMemory : Type 0
   LackMemory =
       (s t : SurfaceValue W) (v u : ViewerValue W) →

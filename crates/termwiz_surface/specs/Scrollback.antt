@@ -2,6 +2,6 @@
 use Rattle.std.specs.Prelude.{ℕ, vec_len}
 use Rattle.termwiz_surface.specs.declared.scrollback.Scrollback.{Scrollback}
 
--- of how many removed lines the memory is kept for new rows
+-- how many removed lines have their memory kept for new rows
 abbrev pub spare_lines : Scrollback → ℕ
 spare_lines s = vec_len s.spare

@@ -73,7 +73,7 @@ module _ (measure : List ℕ → ℕ) where
 abbrev pub line_shown : ℕ → LineValue → ShownRow
 line_shown width line = record { cells = row_of width line.cells; flags = line.flags }
 
--- behind the old lines there are lines that show the first of these rows of this width, and the
+-- after the old lines there are lines that show the first of these rows of this width, and the
 -- others are left
 pub record LeavesRows (width : ℕ) (rows left : List ShownRow) (old new : List LineValue) :
     Type 0 where
@@ -81,11 +81,11 @@ pub record LeavesRows (width : ℕ) (rows left : List ShownRow) (old new : List 
   pub behind : new ≡ old ++ lines
   pub rows_are : rows ≡ map (line_shown width) lines ++ left
 
--- behind the old lines there are lines that show these rows, and no others
+-- after the old lines there are lines that show these rows, and no others
 abbrev pub ScrollsOff : ℕ → List ShownRow → List LineValue → List LineValue → Type 0
 ScrollsOff width rows old new = LeavesRows width rows [] old new
 
--- behind the old lines there are lines that show the first of these rows: all, some or none
+-- after the old lines there are lines that show the first of these rows: all, some or none
 abbrev pub BeginsRows : ℕ → List ShownRow → List LineValue → List LineValue → Type 0
 BeginsRows width rows old new = (left : List ShownRow) × LeavesRows width rows left old new
 
@@ -107,7 +107,7 @@ module _ (measure : List ℕ → ℕ) where
   first_leaves s [] = false
   first_leaves s (g ∷ gs) = top_leaves s (piece_of measure s.pen g)
 
-  -- the rows that the graphemes behind the first one scroll off
+  -- the rows that the graphemes after the first one scroll off
   abbrev pub left_behind_first : Screen → Kept → List (List ℕ) → List ShownRow
   left_behind_first s k [] = []
   left_behind_first s k (g ∷ gs) =

@@ -8,27 +8,27 @@ use Rattle.termwiz_surface.specs.History.{Names}
 use Rattle.termwiz_surface.specs.Surface.{SurfaceValue, screen_of, full_of}
 use Rattle.termwiz_surface.specs.declared.view.viewer.AcceptError.{AcceptError}
 
--- the surface's screen, and it has the surface's number
+-- the viewer shows the surface's screen, and has the surface's number
 abbrev pub HasCaughtUp : {W : Type 0} → ViewerValue W → SurfaceValue W → Type 0
 HasCaughtUp v s = (screen_of v.surface ≡ screen_of s) × (v.last ≡ next_number s.log)
 
 module _ {P : Type 0} (pictures : Pictures P) {W : Type 0} where
-  -- what its number names
+  -- the viewer shows what its number names
   abbrev pub ShowsNamed : (ℕ → P) → ViewerValue W → Type 0
   ShowsNamed past v = Names past v.last (pictures.shown (full_of v.surface))
 
-  -- a viewer that did does so still
+  -- a viewer that showed what its number names still does
   abbrev pub KeepsShowing : ViewerValue W → ViewerValue W → Type 0
   KeepsShowing old new = (past : ℕ → P) → ShowsNamed past old → ShowsNamed past new
 
   module _ (measure_of : W → List ℕ → ℕ) (old : ViewerValue W) (a : AnswerValue) where
-    -- a viewer that did, and takes an answer that leads to a picture, shows that picture
+    -- a viewer that showed what its number names, and takes an answer, shows where that leads
     abbrev pub ShowsCarried : Result ℕ AcceptError → ViewerValue W → Type 0
     ShowsCarried result new =
         (past : ℕ → P) (p : P) → Carries pictures (measure_of old.surface.widths) past a p →
         ShowsNamed past old → OnOk result (pictures.shown (full_of new.surface) ≡ p)
 
-    -- and shows what its number names, whether it takes it or not
+    -- a viewer that showed what its number names still does, whether it takes the answer or not
     abbrev pub StaysNamed : ViewerValue W → Type 0
     StaysNamed new =
         (past : ℕ → P) (p : P) → Carries pictures (measure_of old.surface.widths) past a p →

@@ -62,7 +62,7 @@ module _ {W : Type 0} where
     mark = 0;
   }
 
-  -- such a surface with this number, which its rows have too
+  -- a blank surface with this number, which its rows have too
   abbrev pub blank_surface_from : W → ℕ → ℕ → Bool → ℕ → SurfaceValue W
   blank_surface_from widths width height full number =
       record (blank_surface widths width height full) {

@@ -28,7 +28,7 @@ module _ {W : Type 0} where
   MakesUnlogged measure old changes new =
       (made : SurfaceValue W) × Makes measure old changes made × (new ≡ all_flushed made)
 
-  -- the list of changes is made so, and this number returned
+  -- the list of changes is made unlogged, and this number returned, or it is refused
   abbrev pub AddsUnlogged :
       (List ℕ → ℕ) → SurfaceValue W → List ChangeValue → ℕ → Result ℕ SurfaceError →
       SurfaceValue W → Type 0

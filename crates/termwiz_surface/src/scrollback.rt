@@ -40,7 +40,7 @@ impl Scrollback {
         self.lines.len()
     }
 
-    /// Of how many removed lines the memory is kept for new rows.
+    /// How many removed lines have their memory kept for new rows.
     pub fn spare_lines(&self) -> usize
         ensures { result ≡ spare_lines self.now }
     {

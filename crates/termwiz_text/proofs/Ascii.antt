@@ -16,6 +16,6 @@ chars_ascii p b u l = chars_past_char (p ∷ b) b p u (past_ascii p b l)
 pub IsUtf8-past_ascii : (p : ℕ) (b : List ℕ) → IsUtf8 (p ∷ b) → p < 128 → IsUtf8 b
 IsUtf8-past_ascii p b u l = IsUtf8-past_char (p ∷ b) b p u (past_ascii p b l)
 
--- a character of ASCII with a boundary behind it is the first grapheme
+-- a character of ASCII with a boundary after it is the first grapheme
 pub graphemes_ascii : (p : ℕ) (b : List ℕ) → IsUtf8 (p ∷ b) → p < 128 → breaks (p ∷ []) (chars b) ≡ true → graphemes true (p ∷ b) ≡ (p ∷ []) ∷ graphemes true b
 graphemes_ascii p b u l ends = graphemes_past_char (p ∷ b) b p u (past_ascii p b l) ends ∙ ap (λ g. g ∷ graphemes true b) (encode_ascii p l)

@@ -1,4 +1,4 @@
--- What stands before a boundary between graphemes does not change the cuts behind it.
+-- What stands before a boundary between graphemes does not change the cuts after it.
 use Rattle.std.proofs.Common.{◌≡◌, ◌≢◌, ℕ, Bool, true, false, cond, not, ◌&&◌, ◌||◌, inl, inr, List, [], ◌∷◌, ◌++◌, map, unwrap_or, refl, sym, ap, ap₂, ◌∙◌}
 use Rattle.std.proofs.lemmas.Bool.{cases_Bool, true≢false}
 use Rattle.ucd_breaks.specs.GraphemeClusterBreak.{grapheme_cluster_break}
@@ -30,7 +30,7 @@ pub breaks-end : (last : ℕ) (before : List ℕ) → breaks (last ∷ before) [
 unfolding is_grapheme_break
 breaks-end last before = refl
 
--- ---- the character before a boundary, where the one behind clings
+-- ---- the character before a boundary, where the one after it clings
 
 pair_clings : (a b : GraphemeClusterBreak) (r : Bool) → clings b ≡ true → unwrap_or (break_by_pair true a b) r ≡ true → is_control a ≡ true
 pair_clings Control b r c h = refl
@@ -82,7 +82,7 @@ not_and false b h a = cc
 no_pictograph : (y : ℕ) → is_control (grapheme_cluster_break y) ≡ true → is_extended_pictographic y ≡ false
 no_pictograph y h = not_and (is_control (grapheme_cluster_break y)) (is_extended_pictographic y) (pictographs_fit y) h
 
--- ---- the rules that look back, behind a boundary
+-- ---- the rules that look back, after a boundary
 
 linker_closed : (ys : List ℕ) (f : ℕ) → IsCut ys f → clings (grapheme_cluster_break f) ≡ true → ends_in_linker (map indic_conjunct_break ys) ≡ false
 unfolding ends_in_linker
@@ -178,7 +178,7 @@ module _ (f : ℕ) (ys : List ℕ) (h : IsCut ys f) where
   cut-later xs (c ∷ (d ∷ cs)) =
       ap₂ (λ b (ps : List (List ℕ)). cond b ((c ∷ []) ∷ ps) (prepend (c ∷ []) ps)) (breaks-fresh (c ∷ xs) d (cs ++ [])) (cut-later (c ∷ xs) (d ∷ cs))
 
-  -- behind a boundary a text is cut as if it began there
+  -- after a boundary a text is cut as if it began there
   pub cut-fresh : (cs : List ℕ) → cut breaks ys (f ∷ cs) [] ≡ cut breaks [] (f ∷ cs) []
   unfolding cut
   cut-fresh [] = ap (λ b. cond b ((f ∷ []) ∷ []) (prepend (f ∷ []) [])) (breaks-end f ys) ∙ sym (ap (λ b. cond b ((f ∷ []) ∷ []) (prepend (f ∷ []) [])) (breaks-end f []))

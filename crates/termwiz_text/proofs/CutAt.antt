@@ -1,4 +1,4 @@
--- Behind a boundary a text is cut apart from what stands before, whatever follows.
+-- After a boundary a text is cut apart from what stands before, whatever follows.
 use Rattle.std.proofs.Common.{◌≡◌, ◌≢◌, ℕ, ◌<◌, Bool, true, IsTrue, List, [], ◌∷◌, ◌++◌, map, length, take, drop, refl, sym, ap, ap₂, subst, ◌∙◌, arith, append_assoc, length-append, length-take, length-drop, take-append-drop, Some, ◌↔◌}
 use Rattle.std.proofs.lemmas.List.{append_cancel_left, map-append, drop-append-le}
 use Rattle.std.proofs.lemmas.List.Elements.{All-pop}
@@ -50,7 +50,7 @@ more_behind : (before ds es : List ℕ) → 0 ≢ length ds → breaks before ds
 more_behind before [] es some h = absurd (some refl)
 more_behind before (d ∷ ds) es some h = breaks-next before d (ds ++ es) ∙ sym (breaks-next before d ds) ∙ h
 
--- a boundary stays one, whatever comes behind
+-- a boundary stays one, whatever follows
 seam_stays : (front tail more : List ℕ) → IsUtf8 front → IsUtf8 tail → 0 < length front → 0 < length tail → graphemes true (front ++ tail) ≡ graphemes true front ++ graphemes true tail
     → graphemes true (front ++ (tail ++ more)) ≡ graphemes true front ++ graphemes true (tail ++ more)
 unfolding segments
@@ -86,7 +86,7 @@ module _ (text more : List ℕ) (at : ℕ) (u : IsUtf8 text) (c : IsCutAt text a
   boundary_stays v =
       IsCharBoundary-from_drop (text ++ more) at (omega (arith, length-append text more, c.boundary.0)) (subst IsUtf8 (sym drop_joined) (IsUtf8-append (drop at text) more (IsUtf8-drop text at u c.boundary) v))
 
-  -- so only what stands behind it says whether a text joins
+  -- so only what stands after it says whether a text joins
   pub joins_behind : (graphemes true (drop at text ++ more) ≡ graphemes true (drop at text) ++ more ∷ []) ↔ (graphemes true (text ++ more) ≡ graphemes true text ++ more ∷ [])
   joins_behind =
       let front : List ℕ = take at text in
@@ -100,7 +100,7 @@ module _ (text more : List ℕ) (at : ℕ) (u : IsUtf8 text) (c : IsCutAt text a
         (λ k. append_cancel_left (graphemes true front) (graphemes true (tail ++ more)) (graphemes true tail ++ more ∷ []) (sym all ∙ k ∙ joined)),
       )
 
-  -- what the last grapheme behind it says holds of the whole
+  -- what the last grapheme after it says holds of the whole
   pub joins_of : (whole tail : List ℕ) (joined : Bool) → whole ≡ text ++ more → tail ≡ drop at whole → ((front : List ℕ) → tail ≡ front ++ more → IsTrue joined ↔ (graphemes true tail ≡ graphemes true front ++ more ∷ []))
       → IsTrue joined ↔ (graphemes true (text ++ more) ≡ graphemes true text ++ more ∷ [])
   joins_of whole tail joined pushed back says =
@@ -119,7 +119,7 @@ cut_at_start text u = record {
 last_alone : (gs : List (List ℕ)) (g : List ℕ) → All (λ p. graphemes true p ≡ p ∷ []) (gs ++ g ∷ []) → graphemes true g ≡ g ∷ []
 last_alone gs g h = (All-pop (λ p. graphemes true p ≡ p ∷ []) (gs ++ g ∷ []) gs (Some g) refl h).1
 
--- a text that was joined stands behind such a place
+-- a text that was joined stands after such a place
 pub cut_at_seam : (text more : List ℕ) → IsUtf8 text → IsUtf8 more → graphemes true (text ++ more) ≡ graphemes true text ++ more ∷ [] → IsCutAt (text ++ more) (length text)
 cut_at_seam text more u v h =
     let one : graphemes true more ≡ more ∷ [] = last_alone (graphemes true text) more (graphemes_alone (text ++ more) (IsUtf8-append text more u v) (graphemes true text ++ more ∷ []) h) in

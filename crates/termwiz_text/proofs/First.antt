@@ -32,7 +32,7 @@ first_piece_of text one rest gs u h e =
     nonempty [] k = let e : [] ≡ [] ∷ [] = sym graphemes-nil ∙ k in absurd cc
     nonempty (c ∷ g) k = omega arith
 
--- a piece with the rest of a text behind it
+-- a piece with the rest of a text after it
 first_before : (text one rest : List ℕ) → IsUtf8 text → IsUtf8 rest → graphemes true text ≡ one ∷ graphemes true rest → first.IsFirst text one rest
 first_before text one rest u v h = first_piece_of text one rest (graphemes true rest) u h (sym (concat-segments (is_grapheme_break true) rest v))
 
@@ -79,7 +79,7 @@ boundary_after_line_end (c ∷ (d ∷ text)) u h =
     let is_lf : d ≡ 10 = eqb-true d 10 (and_parts (c == 13) (d == 10) h).1 in
     IsCharBoundary-after_ascii (c ∷ (d ∷ text)) 1 u (omega arith) (omega arith)
 
--- ---- a character with a simple one behind it
+-- ---- a character with a simple one after it
 
 not_line_end : (text rest cs : List ℕ) (c q : ℕ) → text ≡ encode_utf8 c ++ rest → rest ≡ encode_utf8 q ++ cs → begins_line_end text ≡ false → (c == 13 && q == 10) ≡ false
 not_line_end text rest cs c q split later apart = elim (cases_Bool (c == 13 && q == 10)) [

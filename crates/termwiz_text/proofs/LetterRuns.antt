@@ -49,9 +49,9 @@ letters_bytes (c ∷ ls) h =
 letter_simple : (c : ℕ) → is_letter c ≡ true → is_simple c ≡ true
 letter_simple c h = ap (λ b. is_ascii c || b) h ∙ or-true (is_ascii c)
 
--- ---- a text cut behind letters
+-- ---- a text cut after letters
 
--- a text whose first characters are these letters, with others behind them
+-- a text whose first characters are these letters, with others after them
 pub record IsCutBehind (text ls ms : List ℕ) : Type 0 where
   pub split : text ≡ encode_utf8_all ls ++ encode_utf8_all ms
   pub front_text : IsUtf8 (encode_utf8_all ls)
@@ -87,7 +87,7 @@ module _ (text : List ℕ) (u : IsUtf8 text) (n : ℕ) (inside : n ≤ length (c
   bytes-front : length (encode_utf8_all front) ≡ 3 * n
   bytes-front = at.bytes ∙ ap (λ k. 3 * k) (length-take-le n (chars text) inside)
 
-  -- the text may be cut behind n letters
+  -- the text may be cut after n letters
   pub boundary_after_letters : IsCharBoundary text (3 * n)
   boundary_after_letters = subst (IsCharBoundary text) bytes-front (IsCharBoundary-at_seam text (encode_utf8_all front) (encode_utf8_all behind) at.split at.rest_text)
 
@@ -140,7 +140,7 @@ alone_letter c h =
 
 -- ---- counting
 
--- what stands behind one more letter
+-- what stands after one more letter
 pub record IsOneMore (cs : List ℕ) (n : ℕ) (rest : List ℕ) : Type 0 where
   pub inside : n ≤ length cs
   pub others : rest ≡ drop n cs

@@ -14,7 +14,7 @@ use Rattle.unicode_segmentation.proofs.SegmentsLemmas.{concat-segments}
 use Rattle.unicode_segmentation.proofs.TextLemmas.{IsUtf8-before, IsUtf8-after}
 use Rattle.termwiz_text.proofs.Boundaries.{breaks, breaks-next, breaks-end, cut-fresh}
 
--- a piece before the pieces behind it, apart from the first or joined to it
+-- a piece before the pieces after it, apart from the first or joined to it
 attach : Bool → List ℕ → List (List ℕ) → List (List ℕ)
 attach b part pieces = cond b (part ∷ pieces) (prepend part pieces)
 
@@ -101,7 +101,7 @@ pub IsUtf8-past : (cs rest : List ℕ) → IsUtf8 (encode_utf8_all cs ++ rest) �
 IsUtf8-past [] rest u = u
 IsUtf8-past (c ∷ cs) rest u = IsUtf8-past cs rest (IsUtf8-past_char _ _ c u (append_assoc (encode_utf8 c) (encode_utf8_all cs) rest))
 
--- behind a boundary the rest is cut as a text of its own
+-- after a boundary the rest is cut as a text of its own
 pub rest_fresh : (before rest : List ℕ) → breaks before rest ≡ true → cut breaks before rest [] ≡ cut breaks [] rest []
 unfolding cut
 rest_fresh before [] h = refl
@@ -163,7 +163,7 @@ graphemes_alone s u (g ∷ gs) h =
     let front : IsUtf8 g = first_text s g gs u h in
     All-cons (λ g. graphemes true g ≡ g ∷ []) g gs first.alone (graphemes_alone (concat gs) (IsUtf8-after s g (concat gs) u front whole) gs first.others)
 
--- a character with a boundary behind it is the first grapheme
+-- a character with a boundary after it is the first grapheme
 pub graphemes_past_char : (s rest : List ℕ) (c : ℕ) → IsUtf8 s → s ≡ encode_utf8 c ++ rest → breaks (c ∷ []) (chars rest) ≡ true → graphemes true s ≡ encode_utf8 c ∷ graphemes true rest
 unfolding segments cut
 graphemes_past_char s rest c u split ends =
@@ -172,9 +172,9 @@ graphemes_past_char s rest c u split ends =
     ∙ ap₂ (λ b (ps : List (List ℕ)). map encode_utf8_all (cond b (one ∷ ps) (prepend one ps))) (ap (breaks one) (append-nil (chars rest)) ∙ ends) (rest_fresh one (chars rest) ends)
     ∙ ap (λ g. g ∷ map encode_utf8_all (cut breaks [] (chars rest) [])) (append-nil (encode_utf8 c))
 
--- ---- a text behind another one
+-- ---- a text after another one
 
--- a piece that ends at a boundary, with more behind it
+-- a piece that ends at a boundary, with more after it
 pub cut_seam : (before p cs : List ℕ) → 0 ≢ length p → breaks (onto p before) cs ≡ true → cut breaks before (p ++ cs) [] ≡ cut breaks before p [] ++ cut breaks (onto p before) cs []
 unfolding cut
 cut_seam before [] cs some h = absurd (some refl)

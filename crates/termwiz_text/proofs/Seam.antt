@@ -1,4 +1,4 @@
--- A text behind another one: where no grapheme runs over the seam.
+-- A text after another one: where no grapheme runs over the seam.
 use Rattle.std.proofs.Common.{◌≡◌, ◌≢◌, ℕ, suc, ◌-◌, true, false, List, [], ◌∷◌, ◌++◌, map, length, Some, None, refl, sym, ap, ap₂, subst, ◌∙◌, arith}
 use Rattle.std.specs.Prelude.{slice_get, ◌↔◌, encode_utf8_all}
 use Rattle.std.proofs.lemmas.List.{map-append}
@@ -38,7 +38,7 @@ seam_of_none whole front text e h = some (graphemes true front) (sym e ∙ h)
     some [] k = cc
     some (p ∷ ps) k = cc
 
--- a printable character of ASCII behind one
+-- a printable character of ASCII after one
 onto_push : (cs : List ℕ) (p : ℕ) (before : List ℕ) → onto (cs ++ p ∷ []) before ≡ p ∷ onto cs before
 onto_push [] p before = refl
 onto_push (c ∷ cs) p before = onto_push cs p (c ∷ before)

@@ -111,7 +111,7 @@ simple_breaks p before q after a b e =
     values ∙ pair_breaks rest (p == 13) (p == 10) (is_plain p || is_letter p) (q == 13) (q == 10) (is_plain q || is_letter q) e
     (λ l r. sym values ∙ others_break p before q after (left.value ∙ l) (right.value ∙ r) right.no_consonant)
 
--- so an LF has one behind it whatever follows, and a CR before it none
+-- so an LF has one after it whatever follows, and a CR before it none
 pub line_end_joins : (before after : List ℕ) → breaks (13 ∷ before) (10 ∷ after) ≡ false
 unfolding is_grapheme_break
 line_end_joins before after =

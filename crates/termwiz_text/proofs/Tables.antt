@@ -1,4 +1,4 @@
--- What the Unicode tables say of characters that stand behind a boundary, or before one.
+-- What the Unicode tables say of characters that stand after a boundary, or before one.
 use Rattle.std.proofs.Common.{◌≡◌, ℕ, Bool, true, false, not, ◌&&◌, refl}
 use Rattle.ucd_table.proofs.Computing.{tables}
 use Rattle.ucd_table.proofs.Facts.{Stepped-everywhere}
@@ -21,7 +21,7 @@ is_control Cr = true
 is_control Lf = true
 is_control _ = false
 
--- the value breaks only behind one that breaks on both sides
+-- the value breaks only after one that breaks on both sides
 abbrev pub clings : GraphemeClusterBreak → Bool
 clings Extend = true
 clings Zwj = true

@@ -3,9 +3,9 @@ use Rattle.std.specs.Prelude.{◌≡◌, ℕ, ◌<◌, true, List, ◌++◌, len
 use Rattle.std.specs.Str.{IsCharBoundary}
 use Rattle.unicode_segmentation.specs.Grapheme.{graphemes}
 
--- the text may be cut at the place: the graphemes before it and those behind it are the text's
+-- the text may be cut at the place: the graphemes before it and those after it are the text's
 pub record IsCutAt (text : List ℕ) (at : ℕ) : Type 0 where
-  -- something stands behind the place, unless it is the beginning
+  -- something stands after the place, unless it is the beginning
   pub within : 0 < at → at < length text
   pub boundary : IsCharBoundary text at
   pub apart : graphemes true text ≡ graphemes true (take at text) ++ graphemes true (drop at text)

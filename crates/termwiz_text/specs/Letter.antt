@@ -36,7 +36,7 @@ abbrev pub begins_letter : List ℕ → Bool
 begins_letter [] = false
 begins_letter (c ∷ cs) = is_letter c
 
--- a letter first, behind which the text ends or goes on with a simple character
+-- a letter first, after which the text ends or goes on with a simple character
 abbrev pub begins_lone_letter : List ℕ → Bool
 begins_lone_letter [] = false
 begins_lone_letter (c ∷ cs) = is_letter c && begins_simple cs

@@ -14,7 +14,7 @@ abbrev pub begins_ascii : List ℕ → Bool
 begins_ascii [] = true
 begins_ascii (c ∷ cs) = is_ascii c
 
--- the text begins with printable ASCII, behind which it ends or goes on with a simple character,
+-- the text begins with printable ASCII, after which it ends or goes on with a simple character,
 -- which is no mark on it
 abbrev pub begins_alone : List ℕ → Bool
 begins_alone [] = false

@@ -43,7 +43,7 @@ use Rattle.termwiz_wire.proofs.Rows.{FitsRows}
 use Rattle.termwiz_wire.proofs.Params.{ascends-from_order}
 use Rattle.termwiz_wire.proofs.Style.{styled-again, style_again, intensity-below, underline-below, blink-below}
 
--- ---- one of so many kinds
+-- ---- one of a given number of kinds
 
 which_again : (room limit n : ℕ) (rest : List ℕ) → n < limit → n < 2 ^ 64 → which_at room limit (unsigned n ++ rest) ≡ Ok (n, rest)
 unfolding which_at

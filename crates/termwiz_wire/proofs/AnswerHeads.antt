@@ -107,7 +107,7 @@ head_of_encoded measure limits bytes s rest is fits short e =
     let hand : take limits.bytes bytes ≡ whole ++ take k rest = ap (take limits.bytes) e ∙ ap (λ (n : ℕ). take n (whole ++ rest)) all ∙ take-append-add whole rest k in
     head_found limits bytes (flat_map (change measure) s.answer.changes ++ take k rest) (head_of s) (ap (head_at room limits) hand ∙ head_again measure room limits s (take k rest) is fits)
 
--- what comes behind a head that has a fault is not read
+-- what follows a head that has a fault is not read
 fails_so : {A : Type 0} (all : ℕ) (past : List ℕ) (r : Read) (then : Head × List ℕ → Result (A × List ℕ) Halt) (f : Fault) → (located all past (halted None r) >>= alone) ≡ Err f → located all past (halted None r >>= then) ≡ Err f
 fails_so all past (Ok x) then f e = absurd cc
 fails_so {A = A} all past (Err s) then f e = ap (λ (g : Fault). wrong g) (fault_of_err e)

@@ -159,7 +159,7 @@ each_regions measure room head n bytes x fits lt e =
     let start : Takes (array n ++ bytes) (array n) bytes = record { parts = refl; rest_fits = fits } in
     regions_of head.height x.0 (listed_takes measure room (Some head) n (array n ++ bytes) bytes x start lt e).2
 
--- so do those of an answer
+-- the regions of an answer lie on its rows
 pub answer_regions : (measure : List ℕ → ℕ) (room : ℕ) (limits : Limits) (bytes : List ℕ) (x : SentAnswer × List ℕ) → IsBytes bytes → answer_in measure room limits bytes ≡ Ok x → regions_fit x.0.answer.height x.0.answer.changes ≡ true
 unfolding answer_in
 answer_regions measure room limits bytes x fits e =

@@ -71,7 +71,7 @@ first_ascii c rest u a other = first_simple (c ∷ rest) (c ∷ []) rest c 1 u o
 one_text : (c : ℕ) → c < 128 → IsUtf8 (c ∷ [])
 one_text c l = subst IsUtf8 (encode_ascii c l) (IsUtf8-encode c (rw (lt-ltb c 0xD800 (omega arith)) refl))
 
--- a character that is no part of a CR LF, and what is behind it
+-- a character that is no part of a CR LF, and what follows it
 past_one : (f : List ℕ → ℕ) (c : ℕ) (rest : List ℕ) → IsUtf8 (c ∷ rest) → IsAscii (c ∷ rest) → HasNarrowAscii f → f space ≡ 1 → begins_line_end (c ∷ rest) ≡ false → needs_pieces (pieces_of f rest) ≡ false → needs_pieces (pieces_of f (c ∷ rest)) ≡ false
 past_one f c rest u a n s other later = let is : IsFirst (c ∷ rest) (c ∷ []) rest = first_ascii c rest u a other in step f (c ∷ rest) (c ∷ []) rest is (one-out f c (a 0) (one_text c (a 0)) is.alone n s) later
 

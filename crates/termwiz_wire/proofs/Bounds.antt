@@ -29,7 +29,7 @@ past_or_fits limits w h = elim (cases_Bool (is_past limits w h)) [
 
 -- ---- work
 
--- the work of all is that of those before, and of those behind them
+-- the work of all is that of the first, and of those after them
 pub work-append : (w h : ℕ) (cs ds : List ChangeValue) → work_of w h (cs ++ ds) ≡ work_of w h cs + work_of w h ds
 work-append w h [] ds = omega arith
 work-append w h (c ∷ cs) ds =

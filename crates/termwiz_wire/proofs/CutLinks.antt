@@ -342,13 +342,13 @@ next_is measure room head spent bytes x few e =
     ap (λ (r : Result (ChangeValue × List ℕ) Stop). r >>= λ c. cond (bears (Some head) spent c.0) (Ok c) (refused faults.Limit room bytes)) (change_is measure room (Some head.height) bytes x e)
     ∙ all_borne head spent room bytes x.0 (params_left room x) few
 
--- ---- one item behind another
+-- ---- one item after another
 
 param_by_key : (room : ℕ) (made : List Param) (bytes : List ℕ) → param_at room made bytes ≡ (param_key_at room made bytes >>= λ key. text_at room key.1 >>= λ value. ok (key.0, value.0) value.1)
 unfolding param_at param_key_at
 param_by_key room made bytes = sym (then_then (array_of_at room 2 bytes) (λ start. key_at room made start) (λ key. text_at room key.1 >>= λ value. ok (key.0, value.0) value.1))
 
--- the params behind these, from the key of the next one on
+-- the params after these, from the key of the next one on
 by_key : (room : ℕ) (made : List Param) (n : ℕ) (bytes : List ℕ) → params_at room made (suc n) bytes ≡ (param_key_at room made bytes >>= λ key. text_at room key.1 >>= λ value. params_at room (made ++ (key.0, value.0) ∷ []) n value.1)
 by_key room made n bytes =
     params_some room made n bytes

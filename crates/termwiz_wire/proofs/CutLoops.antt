@@ -43,7 +43,7 @@ pieces_done count i size cs total le so_far =
     let k : count - i ≡ 0 = omega arith in
     sym (ap (λ (n : ℕ). are_pieces n size cs) k ∙ pieces_none size cs) ∙ so_far
 
--- the next piece is there, and the others behind it
+-- the next piece is there, and the others after it
 pub room_for : (count i size len : ℕ) → i < count → (count - i) * size ≤ len → (size ≤ len) × ((rest : ℕ) → rest + size ≡ len → (count - (i + 1)) * size ≤ rest)
 room_for count i size len lt within =
     let k : count - i ≡ suc (count - (i + 1)) = omega arith in

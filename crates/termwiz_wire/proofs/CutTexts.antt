@@ -275,7 +275,7 @@ end_ends bytes rest e = record { front = e.front; parts = e.parts }
 pub ends_drop : (n : ℕ) (all : List ℕ) → EndsIn all (drop n all)
 ends_drop n all = record { front = take n all; parts = sym (take-append-drop n all) }
 
--- the bytes behind those that were taken
+-- the bytes after those that were taken
 pub behind_front : (front hand rest near : List ℕ) (n : ℕ) → hand ≡ front ++ rest → n ≡ length hand - length rest → (n ≤ length hand) × (drop n (hand ++ near) ≡ rest ++ near)
 behind_front front hand rest near n parts is =
     let lens : length hand ≡ length front + length rest = ap length parts ∙ length-append front rest in
@@ -300,7 +300,7 @@ end_at all bytes start list first end ends = record {
   of_runs = ends_then all bytes first end (end_ends bytes first ends.first_end);
 }
 
--- they are where they were, with more behind
+-- they are where they were, with more after them
 pub places_near : (places : Places) (all bytes start list first near : List ℕ) → ArePlaces places (length all) bytes start list first → EndAtParts all bytes start list first → AreAt places (all ++ near) (bytes ++ near) (start ++ near) (list ++ near) (first ++ near)
 places_near places all bytes start list first near at ends = record {
   change_here = (behind_front ends.of_change.front all bytes near places.change ends.of_change.parts at.change_is).1;
@@ -335,7 +335,7 @@ module _ (measure : List ℕ → ℕ) (room : ℕ) (all bytes : List ℕ) (part 
       let here : IsCut (pieces_rest_at room part.places (begun_pieces b.text (runs measure b.text) (b.numbers / 3)) all first) = cut_pieces (pieces_rest_at room part.places (begun_pieces b.text (runs measure b.text) (b.numbers / 3)) all first) (subst (λ (r : Result (ChangeValue × List ℕ) Stop). IsCut r) (text_change_is measure room all bytes b.start b.list first b.text b.numbers part.places at b.opens b.reads b.lists rows) cut) in
       subst (λ (p : PiecesPart). IsCut (pieces_rest_at room part.places p all first)) (sym b.pieces) here
 
--- ---- one run behind another
+-- ---- one run after another
 
 ends_len : (all rest : List ℕ) → EndsIn all rest → length rest ≤ length all
 ends_len all rest e = omega (arith, ap length e.parts, length-append e.front rest)
@@ -428,7 +428,7 @@ module _ (room : ℕ) (left : List Run) (bytes : List ℕ) where
 
 -- ---- other runs
 
--- what is left behind a run
+-- what is left after a run
 abbrev pub behind_run : OtherPart → Run → OtherPart
 behind_run part r =
     record {
@@ -605,7 +605,7 @@ module _ (room : ℕ) (places : Places) (all bytes : List ℕ) (end : EndsIn all
   abbrev Reads : PiecesPart → List ℕ → Result ReadPieces ReadError → ℕ → List ℕ → Type 0
   Reads part bytes result at rest = ReadsRuns room places part all bytes result at rest
 
-  -- what is decoded behind a step is what is decoded
+  -- what is decoded after a step is what is decoded
   reads_by : (a b : PiecesPart) (later_bytes : List ℕ) → ((near : List ℕ) (later : ℕ) → length near + later ≡ room → pieces_rest_at later places a (all ++ near) (bytes ++ near) ≡ pieces_rest_at later places b (all ++ near) (later_bytes ++ near)) → (result : Result ReadPieces ReadError) (at : ℕ) (rest : List ℕ) → Reads b later_bytes result at rest → Reads a bytes result at rest
   reads_by a b later_bytes step (Ok (read_pieces.Whole text)) at rest reads = record { end = reads.end; same = λ near later sum. step near later sum ∙ reads.same near later sum }
   reads_by a b later_bytes step (Ok (read_pieces.Cut more)) at rest reads = (record { end = reads.0.end; within = reads.0.within; same = λ near later sum. step near later sum ∙ reads.0.same near later sum }, reads.1)

@@ -1,4 +1,4 @@
--- Changes behind one another, as they are encoded and decoded.
+-- Changes one after another, as they are encoded and decoded.
 use Rattle.std.proofs.Common.{◌≡◌, ℕ, zero, suc, true, false, cond, inl, inr, ◌^◌, ◌<◌, ◌≤◌, List, [], ◌∷◌, ◌++◌, length, Option, Some, None, Result, Ok, Err, refl, sym, ap, subst, ◌∙◌, append_assoc, arith}
 use Rattle.std.specs.List.{flat_map, AllByRecursion}
 use Rattle.std.proofs.lemmas.List.{append-nil, length-append}
@@ -144,7 +144,7 @@ each_takes measure room head (suc n) made bytes x fits e =
       borne = λ is. more.borne (bears_more head made c next.1);
     }
 
--- the changes behind a head that says how many there are
+-- the changes after a head that says how many there are
 pub listed_takes : (measure : List ℕ → ℕ) (room : ℕ) (head : Option Head) (n : ℕ) (before bytes : List ℕ) (x : List ChangeValue × List ℕ) → Takes before (array n) bytes → n < 2 ^ 64 → each_at measure room head [] n bytes ≡ Ok x → Takes before (changes measure x.0) x.1 × AreChanges measure x.0 × AllByRecursion (FitsRows (rows_of head)) x.0 × Bears head x.0
 unfolding changes
 listed_takes measure room head n before bytes x opened lt e =

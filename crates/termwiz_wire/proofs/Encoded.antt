@@ -33,7 +33,7 @@ module _ (m : List ℕ → ℕ) (s : SentAnswer) (old head : List ℕ) (put : he
   is : head ≡ old ++ head_bytes s
   is = put ∙ simp append_assoc refl
 
-  -- its changes come behind that
+  -- its changes follow that
   pub parts : head ++ changes m s.answer.changes ≡ old ++ answer m s
   unfolding answer
   parts = rw is (simp append_assoc refl)

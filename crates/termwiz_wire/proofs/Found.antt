@@ -326,7 +326,7 @@ position_takes room bytes x fits e =
     subst P v.2 (Takes-then bytes (array 2 ++ unsigned 2) kind.0.1 (unsigned v.0.0) v.0.1 named t.0, t.1))
     (λ none. never (stopped faults.Type room kind.0.1) x none)))
 
--- how many items a change of this kind has, where so many were read
+-- how many items a change of this kind has, where its array has `count`
 abbrev items_of : ℕ → ℕ → ℕ
 items_of kind count = cond (eqb kind 2) (cond (eqb count 3) 3 2) (change_count kind)
 
@@ -336,7 +336,7 @@ not_same a b e =
     let bad : false ≡ true = ap (λ (y : Bool × List ℕ). y.0) pair in
     cc
 
--- the values of a change of this kind, read where so many items were said
+-- the values of a change of this kind, whose array has `count` items
 record ValuesFound (measure : List ℕ → ℕ) (rows : Option ℕ) (count kind : ℕ) (bytes : List ℕ) (x : ChangeValue × List ℕ) : Type 0 where
   pub taken : Takes bytes (change_values measure x.0) x.1
   pub kind_is : change_kind x.0 ≡ kind
@@ -465,7 +465,7 @@ same_takes room rs bytes rest fits e =
 abbrev three_or_two : Bool → ℕ
 three_or_two b = cond b 3 2
 
--- a text that is printed, in so many items
+-- the pieces of a text that is printed, whose array has `count` items
 record PiecesFound (count : ℕ) (rs : List Run) (bytes rest : List ℕ) : Type 0 where
   pub taken : Takes bytes (cond (needs_pieces rs) (pieces rs) []) rest
   pub items : ◌≡◌ {A = ℕ} (cond (needs_pieces rs) 3 2) (cond (eqb count 3) 3 2)

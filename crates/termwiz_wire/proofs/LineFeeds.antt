@@ -1,4 +1,4 @@
--- The line feeds of texts. A clean grapheme has none: a line feed, alone or behind a CR, is shown as
+-- The line feeds of texts. A clean grapheme has none: a line feed, alone or after a CR, is shown as
 -- a space.
 use Rattle.std.proofs.Common.{◌≡◌, ◌⊎◌, ℕ, ◌+◌, ◌≤◌, ◌<◌, Bool, true, false, cond, not, ◌||◌, ◌==◌, nat_le, inl, inr, zero, suc, List, [], ◌∷◌, ◌++◌, length, get_or, map, unwrap_or, refl, sym, ap, ap₂, subst, ◌∙◌, append-nil, arith}
 use Rattle.std.proofs.lemmas.Bool.{and_parts, cases_Bool, eqb-true, leb-true, ne_eqb, true≢false}
@@ -65,7 +65,7 @@ cr_is c is = in_cr_range c (either (in_ranges cr_range c) (is_cr (grapheme_clust
 abbrev by_pair : Bool → GraphemeClusterBreak → GraphemeClusterBreak → Bool
 by_pair rest a b = unwrap_or (break_by_pair true a b) rest
 
--- before a line feed there is a boundary, but behind a CR
+-- before a line feed there is a boundary, but after a CR
 pair_feed : (a : GraphemeClusterBreak) (rest : Bool) → by_pair rest a Lf ≡ false → is_cr a ≡ true
 pair_feed Cr rest e = refl
 pair_feed a rest e = cc

@@ -1,4 +1,4 @@
--- A loop that decodes so many values, one behind the other.
+-- A loop that decodes a number of values, one after another.
 use Rattle.std.proofs.Common.{◌≡◌, ℕ, zero, suc, ◌-◌, ◌+◌, ◌≤◌, ◌<◌, List, [], ◌∷◌, ◌++◌, length, Option, Some, None, Result, Ok, Err, refl, sym, ap, ◌∙◌, arith}
 use Rattle.std.specs.Prelude.{IfSome}
 use Rattle.cbor.specs.declared.error.FaultKind.{FaultKind}

@@ -1,4 +1,4 @@
--- What bytes of answers decide within the limits, when more may come behind them.
+-- What bytes of answers decide within the limits, when more may follow them.
 use Rattle.std.proofs.Common.{◌≡◌, ℕ, ◌+◌, ◌-◌, ◌<◌, ◌≤◌, List, [], ◌++◌, length, take, drop, None, Result, Ok, Err, refl, sym, ap, subst, ◌∙◌, append_assoc, append-nil, arith, inl, inr}
 use Rattle.std.proofs.Math.Seq.{take-append-add, drop-append-add}
 use Rattle.std.proofs.lemmas.Bool.{cases_lt, le-ltb}
@@ -20,7 +20,7 @@ use Rattle.termwiz_wire.proofs.Prefixes.{answer_reads, ask_reads, change_reads, 
 
 -- ---- bytes that are cut at a limit
 
--- bytes and those behind them, both cut at the limit
+-- bytes and those after them, both cut at the limit
 record AreParts (limit : ℕ) (bytes more hand past near beyond : List ℕ) (room : ℕ) : Type 0 where
   hand_is : take limit bytes ≡ hand
   past_is : drop limit bytes ≡ past

@@ -76,7 +76,7 @@ verdict measure room limits s rest is = elim (past_or_fits limits s.answer.width
 
 -- ---- more bytes
 
--- what more bytes behind don't make a value of, or a fault but for `Limit`
+-- what further bytes don't make a value of, or a fault but for `Limit`
 record IsPast {A : Type 0} (more : List ℕ) (later : Result (A × List ℕ) Halt) : Type 0 where
   no_value : (y : A × List ℕ) → later ≡ Ok (left y more) → ⊥
   limit : (e : Halt) → later ≡ Err e → halt e ≡ Limit

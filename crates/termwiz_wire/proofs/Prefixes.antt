@@ -1,4 +1,4 @@
--- What bytes of changes and answers decide, when more may come behind them.
+-- What bytes of changes and answers decide, when more may follow them.
 use Rattle.std.proofs.Common.{◌≡◌, ◌≢◌, ℕ, zero, suc, ◌+◌, ◌*◌, ◌/◌, ◌%◌, ◌^◌, Bool, true, false, not, ◌&&◌, ◌||◌, cond, ltb, eqb, List, [], ◌∷◌, ◌++◌, length, drop, Option, Some, None, Result, Ok, Err, refl, ap, subst, ◌∙◌, arith, inl, inr}
 use Rattle.std.proofs.lemmas.List.{length-append}
 use Rattle.std.specs.Str.{chars}
@@ -32,7 +32,7 @@ stop_at f place = Err (record { fault = f; left = place })
 
 -- ---- the place of an item
 
--- what is allowed from an item on is the same with more bytes behind
+-- what is allowed from an item on is the same with more bytes after it
 here : {Z : Type 0} {gz : Z → List ℕ → Z} (f : ℕ → ℕ → List ℕ → Result Z Stop) → ((place : ℕ) → Reads fault gz (f place)) → Reads fault gz (λ room bytes. f (allowed room bytes) room bytes)
 here {gz = gz} f each = record {
   stays = λ room bytes more.
@@ -56,7 +56,7 @@ unless {read = read} f other rule first = here (λ place room bytes. read room b
 over : {A Z E : Type 0} {fe : E → FaultKind} {gz : Z → List ℕ → Z} {read : ℕ → List ℕ → Result (A × List ℕ) E} (f : A → ℕ → List ℕ → Result Z E) → Reads fe left read → ((a : A) → Reads fe gz (f a)) → Reads fe gz (λ room bytes. read room bytes >>= λ y. f y.0 room bytes)
 over f first then = chain left (λ room y bytes. f y.0 room bytes) first (λ y room bytes more. (then y.0).stays room bytes more) (λ y bytes. (then y.0).ends bytes)
 
--- by a test of a value: from its beginning on, or behind it
+-- by a test of a value: from its beginning on, or after it
 fork : {A Z E : Type 0} {fe : E → FaultKind} {gz : Z → List ℕ → Z} {read : ℕ → List ℕ → Result (A × List ℕ) E} (c : A → Bool) (f g : A → ℕ → List ℕ → Result Z E) → Reads fe left read → ((a : A) → Reads fe gz (f a)) → ((a : A) → Reads fe gz (g a)) → Reads fe gz (λ room bytes. read room bytes >>= λ y. cond (c y.0) (f y.0 room bytes) (g y.0 room y.1))
 fork {fe = fe} {gz = gz} c f g first there after =
     chain left (λ room y bytes. cond (c y.0) (f y.0 room bytes) (g y.0 room y.1)) first
@@ -388,12 +388,12 @@ answer_reads measure limits = bind _ (halted_reads None (head_reads limits)) (λ
 stays_ok : {Y E : Type 0} (fe : E → FaultKind) (grow : Y → List ℕ → Y) (more : List ℕ) (r later : Result Y E) (y : Y) → r ≡ Ok y → Stays fe grow more r later → later ≡ Ok (grow y more)
 stays_ok fe grow more r later y is stays = subst (λ (s : Result _ _). Stays fe grow more s later) is stays
 
--- a value that was decoded is there still, with the bytes that come behind
+-- a value that was decoded is there still, with the bytes that follow
 pub still : {A : Type 0} {read : ℕ → List ℕ → Result (A × List ℕ) Stop} → Reads fault left read → (room later : ℕ) (bytes near : List ℕ) (x : A × List ℕ) → length near + later ≡ room → read room bytes ≡ Ok x → read later (bytes ++ near) ≡ Ok (x.0, x.1 ++ near)
 still {read = read} reads room later bytes near x all is =
     stays_ok fault left near (read (length near + later) bytes) (read later (bytes ++ near)) x (ap (λ (n : ℕ). read n bytes) all ∙ is) (reads.stays later bytes near)
 
--- so are bytes behind what has no value
+-- the bytes after what has no value are there still
 pub still_behind : {read : ℕ → List ℕ → Result (List ℕ) Stop} → Reads fault behind read → (room later : ℕ) (bytes near rest : List ℕ) → length near + later ≡ room → read room bytes ≡ Ok rest → read later (bytes ++ near) ≡ Ok (rest ++ near)
 still_behind {read = read} reads room later bytes near rest all is =
     stays_ok fault behind near (read (length near + later) bytes) (read later (bytes ++ near)) rest (ap (λ (n : ℕ). read n bytes) all ∙ is) (reads.stays later bytes near)

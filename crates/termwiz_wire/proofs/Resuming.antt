@@ -56,7 +56,7 @@ some x = Some x
 abbrev sent_behind : Head → List ChangeValue × List ℕ → Result (SentAnswer × List ℕ) Halt
 sent_behind head changes = ok (sent_of head changes.0) changes.1
 
--- the next change, and those behind it
+-- the next change, and those after it
 next_left : (measure : List ℕ → ℕ) (room : ℕ) (head : Head) (more : List ChangeValue) (bytes : List ℕ) → length more < head.count → left_at measure room head more bytes ≡ (halted (Some (length more)) (next_at measure room (Some head) (spent_on (Some head) more) bytes) >>= λ x. left_at measure room head (more ++ x.0 ∷ []) x.1)
 next_left measure room head more bytes lt =
     let k : head.count - length more ≡ suc (head.count - (length more + 1)) = omega (arith, lt) in
@@ -76,7 +76,7 @@ unspent : (head : Head) (spent : ℕ) (attributes : Option Attributes) (link : L
 unspent head spent None link = omega arith
 unspent head spent (Some a) link = omega arith
 
--- ---- one change behind another
+-- ---- one change after another
 
 module _ (measure : List ℕ → ℕ) (room : ℕ) (head : Head) (made : List ChangeValue) (bytes : List ℕ) where
   abbrev Gone : List ChangeValue → List ℕ → Type 0
@@ -195,7 +195,7 @@ slice_within places hand n le within =
     let len : length (take (length hand - n) (drop n hand)) ≡ length hand - n = ap length (slice_from hand n) ∙ length-drop n hand in
     within_more places n (length hand - length (take (length hand - n) (drop n hand))) (omega (arith, len, le)) within
 
--- what is read from the bytes behind those that were taken
+-- what is read from the bytes after those that were taken
 pub runs_read_here : (r room : ℕ) (hand all : List ℕ) (taken : ℕ) (places : Places) (part : PiecesPart) (result : Result ReadPieces ReadError) (left : ℕ) (rest : List ℕ) → r ≡ room → hand ≡ all → ReadsRuns r places part hand (take (length hand - taken) (drop taken hand)) result left rest → ReadsRuns room places part all (drop taken all) result left rest
 runs_read_here r room hand all taken places part result left rest r_is same reads =
     subst (λ (h : List ℕ). ReadsRuns room places part h (drop taken h) result left rest) same
@@ -304,7 +304,7 @@ module _ (measure : List ℕ → ℕ) (limits : Limits) (bytes : List ℕ) where
         ∙ ap (λ (t : List ℕ). resumed_by measure room begun.head made (option_map change_part next) t (start ++ [])) (append-nil hand)
         ∙ ap (resumed_by measure room begun.head made (option_map change_part next) hand) (append-nil start)
 
-    -- so does what was decoded from there on
+    -- what was decoded from there on leads on to the answer
     module _ (begun_next : Option BegunChange) (is : begun.next ≡ begun_next) (changes : Vec Change Global) (next : Option BegunChange) (rest : List ℕ) (n spent : ℕ) where
       abbrev later_begun : Begun
       later_begun = record { head = begun.head; changes = changes; spent = spent; next = next; taken = n }

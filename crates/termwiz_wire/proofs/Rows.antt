@@ -1,4 +1,4 @@
--- Regions of scrolls on so many rows, where these are known.
+-- Regions of scrolls on a number of rows, where that is known.
 use Rattle.std.proofs.Common.{◌≡◌, ℕ, true, List, [], ◌∷◌, Option, Some, None, refl}
 use Rattle.std.specs.List.{AllByRecursion, list_all}
 use Rattle.termwiz_cell.specs.ChangeValue.{ChangeValue}

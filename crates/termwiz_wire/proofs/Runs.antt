@@ -63,7 +63,7 @@ before-apart r s (t ∷ ts) h = elim (cases_Bool (alike s t)) [
   | inr n ↦ rw (n, h) refl
 ]
 
--- so many pieces of these numbers
+-- n pieces of these numbers of characters and columns
 abbrev many : ℕ → ℕ → ℕ → Run
 many a b n = record { count = n; characters = a; columns = b }
 

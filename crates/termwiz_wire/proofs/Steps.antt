@@ -31,7 +31,7 @@ number_takes room limit bytes x fits e = below_takes room limit bytes x fits e
 abbrev pub stopped : FaultKind → ℕ → List ℕ → Stop
 stopped f room bytes = record { fault = f; left = allowed room bytes }
 
--- one of so many kinds
+-- one of a given number of kinds
 pub which_takes : (room limit : ℕ) (bytes : List ℕ) (x : ℕ × List ℕ) → IsBytes bytes → which_at room limit bytes ≡ Ok x → Takes bytes (unsigned x.0) x.1 × (x.0 < limit)
 unfolding which_at
 which_takes room limit bytes x fits e =

@@ -75,7 +75,7 @@ within_again {A = A} read limit bytes encoded rest x fits e law =
 
 -- ---- what a call returns
 
--- so many bytes were taken for the value
+-- n bytes were taken for the value
 pub record Took {A : Type 0} (read : ℕ → List ℕ → Result (A × List ℕ) Halt) (limit : ℕ) (encoded bytes : List ℕ) (n : ℕ) (x : A) : Type 0 where
   pub parts : bytes ≡ encoded ++ drop n bytes
   pub fits : n ≤ length bytes

@@ -44,7 +44,7 @@ unfoldable pub body_at : ℕ → ℕ → List ℕ → List ℕ → Result (List 
 body_at room count start bytes =
     if count == 0 then refused faults.Type room start else version_at room bytes
 
--- the bytes after the version of an array of so many items: another version may have another count
+-- the bytes after the version of an array of `items` items: another version may have another count
 unfoldable pub opened_at : ℕ → ℕ → List ℕ → Result (List ℕ) Stop
 opened_at room items bytes = do
   count ← array_at room bytes
@@ -120,14 +120,14 @@ Halts left view (Err h) read =
     IfSome (fault_of h.error)
     (λ f. read ≡ Err (record { stop = record { fault = f; left = left }; change = h.change }))
 
--- the next change of an answer with this head, if any, whose changes before it took so much work
+-- the next change of an answer with this head, if any, whose changes before it took `spent` work
 unfoldable pub next_at :
     (List ℕ → ℕ) → ℕ → Option Head → ℕ → List ℕ → Result (ChangeValue × List ℕ) Stop
 next_at measure room head spent bytes = do
   c ← change_at measure room (rows_of head) bytes
   if bears head spent c.0 then Ok c else refused faults.Limit room bytes
 
--- so many changes behind these, of an answer with this head, if any
+-- a number of changes after these, of an answer with this head, if any
 unfoldable pub each_at :
     (List ℕ → ℕ) → ℕ → Option Head → List ChangeValue → ℕ → List ℕ →
     Result (List ChangeValue × List ℕ) Halt
@@ -179,7 +179,7 @@ answer_in measure room limits bytes = do
 
 -- ---- with limits
 
--- a halt as a fault of the bytes: so many were allowed at their beginning
+-- a halt as a fault of the bytes, at whose beginning `all` were allowed
 abbrev pub fault_at : ℕ → Halt → Fault
 fault_at all h = record { kind = h.stop.fault; at = all - h.stop.left; change = h.change }
 

@@ -13,7 +13,7 @@ use Rattle.termwiz_wire.specs.Decoding.{ascends, change_kind_at, color_at, count
 use Rattle.termwiz_wire.specs.declared.decode.cut_links.BegunLink.{BegunLink}
 
 -- a change of a link as far as it is decoded: the attributes before the link, if it is one of all
--- attributes, the first params, the key of the next one, if that is there, and how many come behind
+-- attributes, the first params, the key of the next one, if that is there, and how many follow
 -- these
 pub record LinkPart : Type 0 where
   pub attributes : Option Attributes
@@ -68,7 +68,7 @@ before_link_by room kind rest =
     else if kind == 1 then before_link_at room rest
     else refused faults.Type room rest
 
--- a link behind these attributes, up to its params
+-- a link after these attributes, up to its params
 unfoldable pub link_part_at : ℕ → Option Attributes → List ℕ → Result (LinkPart × List ℕ) Stop
 link_part_at room attributes bytes = do
   start ← array_of_at room 3 bytes
@@ -96,7 +96,7 @@ link_begun_at room bytes = do
 
 -- ---- the params
 
--- the key of a param that comes behind these
+-- the key of a param that follows these
 unfoldable pub param_key_at :
     ℕ → List (List ℕ × List ℕ) → List ℕ → Result (List ℕ × List ℕ) Stop
 param_key_at room made bytes = do
@@ -134,7 +134,7 @@ params_left_by room part (Some key) bytes =
 
 -- ---- the change
 
--- the change of this link behind these attributes
+-- the change of this link after these attributes
 abbrev pub link_change_by : Option Attributes → Link → ChangeValue
 link_change_by None link = changed.Attribute (attribute.Hyperlink (Some link))
 link_change_by (Some attributes) link =

@@ -24,7 +24,7 @@ pub record OwnPart : Type 0 where
   pub count : ℕ
   pub left : List Run
 
--- runs that are decoded by their rules alone: the characters behind them, the last one, whether one
+-- runs that are decoded by their rules alone: the characters after them, the last one, whether one
 -- of them is a reason to send them, and how many are left
 pub record OtherPart : Type 0 where
   pub characters : List ℕ
@@ -82,12 +82,12 @@ text_begun_at room bytes = do
   numbers ← threes_at room text.1
   ok (text.0, numbers.0) numbers.1
 
--- so many runs of a text, by their rules alone
+-- `count` runs of a text, by their rules alone
 abbrev pub all_others : List ℕ → ℕ → OtherPart
 all_others text count =
     record { characters = chars text; last = no_run; needed = false; left = count }
 
--- so many runs of a text that has these here
+-- `count` runs of a text that has these here
 abbrev pub begun_pieces : List ℕ → List Run → ℕ → PiecesPart
 begun_pieces text rs count =
     if needs_pieces rs && length rs == count

@@ -66,7 +66,7 @@ is_piece p rest =
     not (is_return p && begins_line_feed rest) &&
     (length p == 1 || (is_line_end p || not (list_any is_control p)))
 
--- whether each of the next pieces, of so many characters, is one
+-- whether each of the next pieces, of `size` characters, is one
 unfoldable pub are_pieces : ℕ → ℕ → List ℕ → Bool
 are_pieces zero size cs = true
 are_pieces (suc n) size cs =
@@ -99,7 +99,7 @@ are_columns last cs count size n =
     (have_columns (not (n == 0)) count size cs &&
     not (alike last (record { count = count; characters = size; columns = n })))
 
--- a run of the characters that are left, behind the last one
+-- a run of the characters that are left, after the last one
 unfoldable pub run_at : ℕ → Run → List ℕ → List ℕ → Result (Run × List ℕ) Stop
 run_at room last cs bytes = do
   count ← kept_at room (is_count cs) bytes
@@ -111,8 +111,8 @@ run_at room last cs bytes = do
 abbrev pub no_run : Run
 no_run = record { count = 0; characters = 0; columns = 0 }
 
--- so many runs behind the last one: whether they end with the text, and one of them is a reason to
--- send them
+-- a number of runs after the last one: whether they end with the text, and one of them is a reason
+-- to send them
 unfoldable pub runs_at : ℕ → Run → Bool → List ℕ → ℕ → List ℕ → Result (Bool × List ℕ) Stop
 runs_at room last needed cs zero bytes = ok (needed && length cs == 0) bytes
 runs_at room last needed cs (suc n) bytes = do
@@ -148,7 +148,7 @@ pieces_at room place text rs bytes =
     else others_at room place text bytes)
     else others_at room place text bytes
 
--- the bytes behind a text's pieces, if its change has them as a third item: the text has its fault
+-- the bytes after a text's pieces, if its change has them as a third item: the text has its fault
 -- where it begins
 unfoldable pub pieces_by : ℕ → ℕ → ℕ → List ℕ → List Run → List ℕ → Result (List ℕ) Stop
 pieces_by room place count text rs bytes =

@@ -25,7 +25,7 @@ use Rattle.termwiz_wire.specs.Encoding.{fields, change_count}
 use Rattle.termwiz_wire.specs.Pieces.{runs}
 use Rattle.termwiz_wire.specs.Cuts.{refused, pieces_by}
 
--- one of so many kinds
+-- one of `limit` kinds
 unfoldable pub which_at : ℕ → ℕ → List ℕ → Result (ℕ × List ℕ) Stop
 which_at room limit bytes = do
   n ← unsigned_at room bytes
@@ -118,13 +118,13 @@ ascends [] key = true
 ascends (p ∷ []) key = is_lt (slice_cmp nat_cmp p.0 key)
 ascends (p ∷ q ∷ ps) key = ascends (q ∷ ps) key
 
--- a key that comes behind these
+-- a key that follows these
 unfoldable pub key_at : ℕ → List (List ℕ × List ℕ) → List ℕ → Result (List ℕ × List ℕ) Stop
 key_at room made bytes = do
   key ← text_at room bytes
   if ascends made key.0 then Ok key else refused faults.Range room bytes
 
--- a param that comes behind these
+-- a param that follows these
 unfoldable pub param_at :
     ℕ → List (List ℕ × List ℕ) → List ℕ → Result ((List ℕ × List ℕ) × List ℕ) Stop
 param_at room made bytes = do
@@ -133,7 +133,7 @@ param_at room made bytes = do
   value ← text_at room key.1
   ok (key.0, value.0) value.1
 
--- so many params behind these
+-- a number of params after these
 unfoldable pub params_at :
     ℕ → List (List ℕ × List ℕ) → ℕ → List ℕ → Result (List (List ℕ × List ℕ) × List ℕ) Stop
 params_at room made zero bytes = Ok (made, bytes)
@@ -225,7 +225,7 @@ place_at room bytes = do
 abbrev pub visibility_of : Bool → CursorVisibility
 visibility_of on = if on then Visible else Hidden
 
--- whether a scroll's region lies on so many rows, where they are known
+-- whether a scroll's region lies on this many rows, where that is known
 abbrev pub is_on : Option ℕ → ℕ → ℕ → Bool
 is_on None first size = true
 is_on (Some rows) first size = nat_le (first + size) rows
@@ -280,11 +280,11 @@ count_at room bytes = do
   n ← array_at room bytes
   if nat_lt 1 n.0 && nat_lt n.0 5 then Ok n else refused faults.Type room bytes
 
--- whether a change of this kind has so many items: a text has one more with its pieces
+-- whether a change of this kind has `count` items: a text has one more with its pieces
 abbrev pub has_count : ℕ → ℕ → Bool
 has_count kind count = nat_lt kind 14 && (count == change_count kind || (kind == 2 && count == 3))
 
--- the kind of a change of so many items
+-- the kind of a change of `count` items
 unfoldable pub change_kind_at : ℕ → ℕ → List ℕ → Result (ℕ × List ℕ) Stop
 change_kind_at room count bytes = do
   kind ← unsigned_at room bytes

@@ -1,4 +1,4 @@
--- What bytes of answers decide, when more may come behind them.
+-- What bytes of answers decide, when more may follow them.
 use Rattle.std.specs.Prelude.{◌≡◌, ℕ, List, [], ◌++◌, Result, Ok, Err}
 use Rattle.cbor.specs.declared.error.FaultKind.{FaultKind}
 use Rattle.cbor.specs.declared.error.FaultKind.TheVariants.{Limit, Truncated}
@@ -22,7 +22,7 @@ abbrev pub IsCut : Fault → Type 0
 IsCut f = f.kind ≡ Truncated
 
 -- nothing is decoded from no bytes, and what is decoded, and a fault that is not cut, stays as it
--- is with more bytes behind
+-- is with more bytes after them
 pub record Goes {T E : Type 0} (read : List ℕ → Result (T × List ℕ) E) (IsCut : E → Type 0) :
     Type 0 where
   pub first : E
@@ -35,7 +35,7 @@ pub record Goes {T E : Type 0} (read : List ℕ → Result (T × List ℕ) E) (I
       (bytes more : List ℕ) (e : E) → read bytes ≡ Err e → (IsCut e → ⊥) →
       read (bytes ++ more) ≡ Err e
 
--- what is encoded is decoded again, whatever comes behind, if the limits allow it, and else it is
+-- what is encoded is decoded again, whatever follows it, if the limits allow it, and else it is
 -- past them
 pub record Laws (measure : List ℕ → ℕ) (limits : Limits) : Type 0 where
   pub goes : Goes (answer_at measure limits) IsCut

@@ -34,13 +34,13 @@ use Rattle.termwiz_wire.specs.declared.pieces.Run.{Run}
 use Rattle.termwiz_wire.specs.declared.sent.LentAnswer.{LentAnswer}
 use Rattle.termwiz_wire.specs.declared.sent.SentAnswer.{SentAnswer}
 
--- the changes behind these, of those that an answer has
+-- the changes after these, of those that an answer has
 abbrev pub left_at :
     (List ℕ → ℕ) → ℕ → Head → List ChangeValue → List ℕ → Result (List ChangeValue × List ℕ) Halt
 left_at measure room head made bytes =
     each_at measure room (Some head) made (head.count - length made) bytes
 
--- the answer of this head, behind these of its changes
+-- the answer of this head, after these of its changes
 abbrev pub rest_at :
     (List ℕ → ℕ) → ℕ → Head → List ChangeValue → List ℕ → Result (SentAnswer × List ℕ) Halt
 rest_at measure room head made bytes =
@@ -61,7 +61,7 @@ abbrev pub change_rest_at :
 change_rest_at room head spent (Link part) all bytes = link_rest_at room part bytes
 change_rest_at room head spent (Text part) all bytes = text_rest_at room head spent part all bytes
 
--- the answer of this head, behind these of its changes and what is begun of the next one
+-- the answer of this head, after these of its changes and what is begun of the next one
 abbrev pub resumed_by :
     (List ℕ → ℕ) → ℕ → Head → List ChangeValue → Option ChangePart → List ℕ → List ℕ →
     Result (SentAnswer × List ℕ) Halt
@@ -77,20 +77,20 @@ resumed_in measure room begun bytes =
     resumed_by measure room begun.head (map change_value begun.changes.items)
     (option_map change_part begun.next) bytes (drop begun.taken bytes)
 
--- parts of a change begin one behind another within so many bytes
+-- the parts of a change begin one after another within n bytes
 pub record AreWithin (places : Places) (n : ℕ) : Type 0 where
   pub change : places.change ≤ places.text
   pub text : places.text ≤ places.list
   pub list : places.list ≤ places.runs
   pub runs : places.runs ≤ n
 
--- the keys of a link ascend, and the parts of a text's change begin within so many bytes
+-- the keys of a link ascend, and the parts of a text's change begin within n bytes
 abbrev pub IsChangePart : ℕ → ChangePart → Type 0
 IsChangePart n (Link part) = IsLinkPart part
 IsChangePart n (Text part) = AreWithin part.places n
 
--- with the bytes that come behind within the limit, decoding gives the same from the front and from
--- what is begun
+-- with the bytes that follow within the limit, decoding gives the same from the front and from what
+-- is begun
 pub record LeadsOn (measure : List ℕ → ℕ) (limits : Limits) (begun : Begun) (bytes : List ℕ) :
     Type 0 where
   pub width : (0 < begun.head.width) × (begun.head.width < 2 ^ 32)
@@ -179,9 +179,9 @@ Resumes measure limits bytes (Err (no_answers.Failed (errors.Fault f))) =
     (answer_at measure limits bytes ≡ Err f) × (f.kind ≢ Truncated)
 Resumes measure limits bytes (Err (no_answers.Failed errors.Memory)) = Unit {0}
 
--- ---- one change behind another
+-- ---- one change after another
 
--- decoding has gone on to these changes and bytes, with whatever comes behind within the limit
+-- decoding has gone on to these changes and bytes, whatever follows within the limit
 pub record HasGoneOn (measure : List ℕ → ℕ) (room : ℕ) (head : Head) (made : List ChangeValue)
     (bytes : List ℕ) (more : List ChangeValue) (rest : List ℕ) : Type 0 where
   pub front : List ℕ
@@ -191,7 +191,7 @@ pub record HasGoneOn (measure : List ℕ → ℕ) (room : ℕ) (head : Head) (ma
       left_at measure later head made (bytes ++ near) ≡
       left_at measure later head more (rest ++ near)
 
--- the changes that were left are there, or one is cut, or decoding fails, with so many bytes
+-- the changes that were left are there, or one is cut, or decoding fails, with this many bytes
 -- allowed from there on
 abbrev pub GoesOn :
     (List ℕ → ℕ) → ℕ → Head → List ChangeValue → List ℕ → Result Bool Halted → List ChangeValue →
@@ -210,7 +210,7 @@ GoesOn measure room head made bytes (Err h) more allowed rest =
 
 -- ---- the params of a link that is cut
 
--- decoding has gone on to these params and bytes, with whatever comes behind within the limit
+-- decoding has gone on to these params and bytes, whatever follows within the limit
 pub record HasReadOn (room : ℕ) (part : LinkPart) (bytes : List ℕ) (more : LinkPart)
     (rest : List ℕ) : Type 0 where
   pub front : List ℕ
@@ -220,8 +220,8 @@ pub record HasReadOn (room : ℕ) (part : LinkPart) (bytes : List ℕ) (more : L
       (near : List ℕ) (later : ℕ) → length near + later ≡ room →
       link_rest_at later part (bytes ++ near) ≡ link_rest_at later more (rest ++ near)
 
--- the params that were left are there, or the bytes end within one, or decoding fails, with so many
--- bytes allowed from there on
+-- the params that were left are there, or the bytes end within one, or decoding fails, with this
+-- many bytes allowed from there on
 abbrev pub ReadsOn :
     ℕ → LinkPart → List ℕ → Result Unit ReadError → LinkPart → ℕ → List ℕ → Type 0
 ReadsOn room part bytes (Ok done) more allowed rest =
@@ -239,7 +239,7 @@ pub record EndsIn (all bytes : List ℕ) : Type 0 where
   pub front : List ℕ
   pub parts : all ≡ front ++ bytes
 
--- decoding has gone on to this state and these bytes, with whatever comes behind within the limit
+-- decoding has gone on to this state and these bytes, whatever follows within the limit
 pub record HasCome {S Y : Type 0} (read : S → ℕ → List ℕ → Result Y Stop) (room : ℕ) (state : S)
     (bytes : List ℕ) (more : S) (rest : List ℕ) : Type 0 where
   pub end : EndsIn bytes rest
@@ -248,7 +248,7 @@ pub record HasCome {S Y : Type 0} (read : S → ℕ → List ℕ → Result Y St
       read state later (bytes ++ near) ≡ read more later (rest ++ near)
 
 -- the runs that were left are the text's, or one differs, or the bytes end within one, or decoding
--- fails, with so many bytes allowed from there on
+-- fails, with this many bytes allowed from there on
 abbrev pub Compares :
     ℕ → List Run → List ℕ → Result Bool ReadError → List Run → ℕ → List ℕ → Type 0
 Compares room left bytes (Ok true) more allowed rest =
@@ -260,7 +260,7 @@ Compares room left bytes (Err read_errors.Truncated) more allowed rest =
 Compares room left bytes (Err e) more allowed rest = Stops allowed e (own_left_at left room bytes)
 
 -- the runs that were left are there, and whether they keep the rules, or the bytes end within one,
--- or decoding fails, with so many bytes allowed from there on
+-- or decoding fails, with this many bytes allowed from there on
 abbrev pub ReadsOthers :
     ℕ → OtherPart → List ℕ → Result Bool ReadError → OtherPart → ℕ → List ℕ → Type 0
 ReadsOthers room part bytes (Ok whole) more allowed rest =
@@ -270,7 +270,7 @@ ReadsOthers room part bytes (Err read_errors.Truncated) more allowed rest =
 ReadsOthers room part bytes (Err e) more allowed rest =
     Stops allowed e (others_left_at part room bytes)
 
--- decoding of a text has gone on to these runs and bytes, of all these, with whatever comes behind
+-- decoding of a text has gone on to these runs and bytes, of all these bytes, whatever follows
 -- within the limit
 pub record HasReadRuns (room : ℕ) (places : Places) (part : PiecesPart) (all bytes : List ℕ)
     (more : PiecesPart) (rest : List ℕ) : Type 0 where
@@ -281,7 +281,7 @@ pub record HasReadRuns (room : ℕ) (places : Places) (part : PiecesPart) (all b
       pieces_rest_at later places part (all ++ near) (bytes ++ near) ≡
       pieces_rest_at later places more (all ++ near) (rest ++ near)
 
--- the text is whole, with whatever comes behind within the limit
+-- the text is whole, whatever follows within the limit
 pub record IsWholeText (room : ℕ) (places : Places) (part : PiecesPart) (all bytes : List ℕ)
     (text : List ℕ) (rest : List ℕ) : Type 0 where
   pub end : EndsIn all rest
@@ -289,7 +289,7 @@ pub record IsWholeText (room : ℕ) (places : Places) (part : PiecesPart) (all b
       (near : List ℕ) (later : ℕ) → length near + later ≡ room →
       pieces_rest_at later places part (all ++ near) (bytes ++ near) ≡ Ok (text, rest ++ near)
 
--- the text is whole, or the bytes end within a run, or decoding fails, with so many bytes allowed
+-- the text is whole, or the bytes end within a run, or decoding fails, with this many bytes allowed
 -- from there on
 abbrev pub ReadsRuns :
     ℕ → Places → PiecesPart → List ℕ → List ℕ → Result ReadPieces ReadError → ℕ → List ℕ → Type 0
@@ -303,7 +303,7 @@ ReadsRuns room places part all bytes (Err e) allowed rest =
 
 -- ---- what is begun of the next change
 
--- the parts of a change begin where these bytes are left, of so many
+-- the parts of a change begin where these bytes are left, of `len` bytes
 pub record ArePlaces (places : Places) (len : ℕ) (change text list runs : List ℕ) : Type 0 where
   pub change_is : places.change ≡ len - length change
   pub text_is : places.text ≡ len - length text
@@ -343,7 +343,7 @@ BeginsLink room bytes (Some part) rest =
     (x : LinkPart × List ℕ) × (link_begun_at room bytes ≡ Ok x) ×
     HasReadOn room x.0 x.1 part rest × ReachesItem room part rest
 
--- of a text in it: its runs, if their list has begun
+-- what is begun of a text in that change: its runs, if their list has begun
 abbrev pub MayBeginText :
     (List ℕ → ℕ) → ℕ → List ℕ → List ℕ → Option TextPart → List ℕ → Type 0
 MayBeginText measure room all bytes None rest =
@@ -351,7 +351,7 @@ MayBeginText measure room all bytes None rest =
 MayBeginText measure room all bytes (Some part) rest =
     BeginsText measure room all bytes part rest
 
--- and of any
+-- what is begun of any change
 abbrev pub BeginsChange :
     (List ℕ → ℕ) → ℕ → List ℕ → List ℕ → Option ChangePart → List ℕ → Type 0
 BeginsChange measure room all bytes None rest =
@@ -367,22 +367,22 @@ BeginsChange measure room all bytes (Some (Text part)) rest =
 abbrev pub begun_with : Begun → BegunChange → Begun
 begun_with begun next = record begun { next = Some next }
 
--- up to so many bytes
+-- what is begun, with this of the next change, up to `taken` bytes
 abbrev pub cut_after : Begun → BegunChange → ℕ → Begun
 cut_after begun next taken = record begun { next = Some next; taken = taken }
 
--- with these changes, which take so much work
+-- what is begun, with these changes, which take `spent` work, up to `taken` bytes
 abbrev pub whole_after : Begun → Vec Change Global → ℕ → ℕ → Begun
 whole_after begun changes spent taken =
     record begun { changes = changes; spent = spent; next = None; taken = taken }
 
--- with this change behind its changes
+-- what is begun has become this, with this change after its changes
 abbrev pub IsWith : Begun → ChangeValue → ℕ → ℕ → Begun → Type 0
 IsWith begun change spent taken more =
     (more ≡ whole_after begun more.changes spent taken) ×
     (map change_value more.changes.items ≡ map change_value begun.changes.items ++ change ∷ [])
 
--- a call returns what is begun with this text behind its changes, if the screen bears it, or fails
+-- a call returns what is begun with this text after its changes, if the screen bears it, or fails
 -- where its change begins
 abbrev pub WithWhole : Begun → List ℕ → ℕ → ℕ → Result Begun NoAnswer → Type 0
 WithWhole begun text start taken (Ok more) =
@@ -396,7 +396,7 @@ WithWhole begun text start taken (Err (no_answers.Failed error)) =
     error_of read_errors.Limit start (Some (length (map change_value begun.changes.items)))))
 WithWhole begun text start taken (Err (no_answers.Cut next)) = ⊥
 
--- a call returns what is begun with the next change whole behind its changes, or what decoding
+-- a call returns what is begun with the next change whole after its changes, or what decoding
 -- gives
 abbrev pub WithNext : (List ℕ → ℕ) → Limits → List ℕ → Result Begun NoAnswer → Type 0
 WithNext measure limits bytes (Ok begun) =

@@ -1,4 +1,4 @@
--- Screens that the limits of whoever decodes allow.
+-- Screens that the limits of a decoder allow.
 use Rattle.std.specs.Prelude.{ℕ, ◌*◌, ◌≤◌, nat_lt, Bool, ◌||◌}
 use Rattle.termwiz_wire.specs.declared.fault.Limits.{Limits}
 
@@ -6,7 +6,7 @@ use Rattle.termwiz_wire.specs.declared.fault.Limits.{Limits}
 abbrev pub is_past : Limits → ℕ → ℕ → Bool
 is_past limits w h = nat_lt limits.cells (w * h) || nat_lt limits.rows h
 
--- it has no more than these
+-- a screen of w columns and h rows has no more cells and rows than these limits
 pub record FitsLimits (limits : Limits) (w h : ℕ) : Type 0 where
   pub cells : w * h ≤ limits.cells
   pub rows : h ≤ limits.rows

@@ -18,8 +18,8 @@ answer measure s =
 unfoldable pub ask : Ask → List ℕ
 ask a = array 3 ++ unsigned 2 ++ unsigned a.source ++ unsigned a.number
 
--- of bytes that are encoded, those that are no more than so many are appended, and of others
--- nothing is
+-- these encoded bytes are appended where they are at most `most`; otherwise nothing is appended,
+-- and the result is false
 abbrev pub EncodesWithin : List ℕ → ℕ → List ℕ → Bool → List ℕ → Type 0
 EncodesWithin bytes most before true after = (after ≡ before ++ bytes) × (length bytes ≤ most)
 EncodesWithin bytes most before false after =

@@ -34,7 +34,7 @@ work w h (changed.ScrollRegionUp first size count) = scroll_work w size count
 work w h (changed.ScrollRegionDown first size count) = scroll_work w size count
 work w h _ = 0
 
--- that of all of them
+-- the work of all changes of a list
 abbrev pub work_of : ℕ → ℕ → List ChangeValue → ℕ
 work_of w h [] = 0
 work_of w h (c ∷ cs) = work w h c + work_of w h cs
@@ -54,12 +54,12 @@ abbrev pub cost : Option Head → ChangeValue → ℕ
 cost None c = 0
 cost (Some head) c = work head.width head.height c
 
--- and of all of them
+-- the work of all changes
 abbrev pub spent_on : Option Head → List ChangeValue → ℕ
 spent_on None cs = 0
 spent_on (Some head) cs = work_of head.width head.height cs
 
--- whether there may be this change too, where so much work was taken before it
+-- whether there may be this change too, where `spent` work was taken before it
 abbrev pub bears : Option Head → ℕ → ChangeValue → Bool
 bears None spent c = true
 bears (Some head) spent c =

@@ -5,9 +5,9 @@ use cbor::FaultKind;
 use std::fmt::{self, Display, Formatter};
 use thiserror::Error;
 
-/// What a decoder takes at most: an answer of more is the fault `Limit`, found before memory is
-/// taken for it. So is one whose changes cost more than its screen bears, which no limit sets: see
-/// `is_borne`.
+/// What a decoder takes at most. An answer of more is the fault `Limit`, found before memory is
+/// taken for it. One whose changes cost more than its screen bears is that fault too, whatever
+/// these limits are: see `is_borne`.
 #[derive(Clone, Copy, PartialEq, Eq, Debug)]
 pub struct Limits {
     /// Cells of the screen: columns times rows.

@@ -1,9 +1,9 @@
 //! Answers and asks as bytes, and back: CBOR in core deterministic encoding, in the form that
 //! `docs/stream.cddl` describes. A stream is one answer after another.
 //!
-//! What is encoded is decoded again, whatever follows it, and what is decoded was encoded so. An
-//! error is the first fault from left to right, with its place, or want of memory. After
-//! `Truncated` more bytes may complete the value; any other fault stays.
+//! What is encoded is decoded again, whatever follows it, and the bytes of what is decoded are its
+//! encoding. An error is the first fault from left to right, with its place, or want of memory.
+//! After `Truncated` more bytes may complete the value; any other fault stays.
 #![tactic(auto)]
 
 mod decode;

@@ -12,8 +12,8 @@ ghost use Rattle.termwiz_wire.specs.declared.decode.heads.Head.{Head};
 ghost use Rattle.termwiz_wire.specs.declared.fault.Limits.{Limits};
 ghost use Rattle.termwiz_wire.specs.declared.sent.SentAnswer.{SentAnswer};
 
-/// A value, and a fault but for `Truncated`, stays as it is, whatever bytes follow within the limit;
-/// and no bytes that reach the limit are `Truncated`.
+/// A value, and a fault other than `Truncated`, stays as it is, whatever bytes follow within the
+/// limit; and no bytes that reach the limit are `Truncated`.
 pub fn decided()
     ensures change { (measure : List ℕ → ℕ) (rows : Option ℕ) →
         Reads fault left (λ room bytes. change_at measure room rows bytes) }

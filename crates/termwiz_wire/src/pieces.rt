@@ -17,7 +17,7 @@ use termwiz_cell::emoji::Widths;
 use termwiz_screen::print::{begins_letters, begins_plain, split_narrow_run, split_wide_run};
 use termwiz_text::{letter_count, split_first_grapheme};
 
-/// So many pieces in a row, of so many characters and so many columns each.
+/// `count` pieces in a row, of `characters` characters and `columns` columns each.
 #[derive(Clone, Copy, PartialEq, Eq, Debug)]
 pub(crate) struct Run {
     pub count: usize,

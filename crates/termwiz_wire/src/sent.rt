@@ -1,4 +1,4 @@
-//! What a stream carries: answers, each with its source, and what is asked for.
+//! Answers, each with its source, and asks.
 use termwiz_cell::change::SequenceNo;
 use termwiz_surface::{Answer, LentChange};
 
@@ -29,8 +29,8 @@ pub struct LentAnswer<'a> {
     pub changes: Vec<LentChange<'a>>,
 }
 
-/// What a viewer asks by: the source and the number that it shows. Both are 0 where it shows
-/// nothing.
+/// The source and the number that a client shows, by which it is answered. Both are 0 where it
+/// shows nothing.
 #[derive(Clone, Copy, PartialEq, Eq, Debug)]
 pub struct Ask {
     pub source: SourceNo,

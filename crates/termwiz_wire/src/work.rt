@@ -12,8 +12,8 @@ use termwiz_surface::{Answer, LentChange};
 use termwiz_text::split_plain_run;
 
 /// Whether a screen bears the work of an answer's changes: the cells that they may write and the
-/// rows that they may move, beside what their own bytes stand for. It is at most four times the
-/// screen's cells, and 64. An answer of more isn't decoded.
+/// rows that they may move, beside what their own bytes stand for. The bound is four times the
+/// screen's cells, plus 64. An answer of more isn't decoded.
 pub fn is_borne(answer: &Answer<'_>) -> bool
     ensures { result ≡ nat_le (work_of answer.now.width answer.now.height answer.now.changes)
         (most_work answer.now.width answer.now.height) }

@@ -1,4 +1,4 @@
--- Bytes that encode one value, with nothing behind it.
+-- Bytes that encode one value, with nothing after it.
 use Rattle.std.proofs.Common.{◌≡◌, ◌⊎◌, inl, inr, ℕ, ◌<◌, ◌≤◌, List, [], ◌++◌, length, drop, refl, sym, ap, subst, ◌∙◌, arith}
 use Rattle.std.proofs.lemmas.List.{append-nil, length-drop, nil_from_length}
 use Rattle.std.specs.Prelude.{Result, Ok, Err, IsErrAnd}
@@ -44,7 +44,7 @@ module _ {A : Type 0} (Is : A → Type 0) (encode : A → List ℕ) (bytes : Lis
       λ a is e. sym (ap (λ (p : A × List ℕ). p.0) (same a is e)),
     )
 
-    -- with bytes behind a value they encode none
+    -- with bytes after a value they encode none
     pub more_behind : (read : Result (A × List ℕ) Fault) → read ≡ Ok (x, drop n bytes) → n < length bytes → (Unreadable ≡ unread_as read) × ((a : A) → Is a → bytes ≡ encode a → ⊥)
     more_behind read exact lt = (
       ap unread_as (sym exact),

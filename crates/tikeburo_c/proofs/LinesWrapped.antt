@@ -4,7 +4,7 @@ use Rattle.termwiz_line.specs.LineValue.{LineValue}
 use Rattle.termwiz_line.specs.Wraps.{FitsWidth, IsWrapped}
 use Rattle.tikeburo_c.specs.LineLists.{AreWrapped}
 
--- one more line, whose lines come behind the others
+-- one more line, whose lines come after the others
 pub wrapped_more : (width : ℕ) (lines : List LineValue) (line : LineValue) (new first : List LineValue) → AreWrapped width lines new → IsWrapped width 0 line first → (2 ≤ width → FitsWidth width line first) →
     AreWrapped width (lines ++ line ∷ []) (new ++ first)
 wrapped_more width [] line new first are wrapped fits = (first, [], wrapped, fits, refl, ap (λ (l : List LineValue). l ++ first) are ∙ sym (append-nil first))

@@ -1,4 +1,4 @@
--- What a list of changes is written as is read as these changes.
+-- The list that changes are written as is read as these changes.
 use Rattle.std.proofs.Common.{◌≡◌, ℕ, ◌+◌, ◌*◌, ◌/◌, ◌%◌, Bool, false, cond, if◌then◌else◌, List, [], ◌∷◌, ◌++◌, length, take, drop, map, Option, Some, None, Result, Ok, Err, nat_lt, refl, sym, ap, subst, ◌∙◌, append-nil, append_assoc, arith}
 use Rattle.std.proofs.lemmas.Bool.{le-ltb}
 use Rattle.std.proofs.lemmas.Int.{to_z-of_z}
@@ -239,7 +239,7 @@ first_back (change.CursorShape h) s rest = first_of (struct_of (change.CursorSha
 first_back (change.CursorColor c) s rest = first_of (struct_of (change.CursorColor c)) kind.CursorColor [] rest (change.CursorColor c) refl refl (of_color change.CursorColor c)
 first_back (change.LineAttribute a) s rest = first_of (struct_of (change.LineAttribute a)) kind.LineAttribute [] rest (change.LineAttribute a) refl refl (ap (made_in change.LineAttribute) (line_back a))
 
--- ---- so are lists of changes
+-- ---- lists of changes are read back
 
 abbrev pub AreListable : List ChangeValue → Type 0
 AreListable [] = Unit {0}

@@ -1,4 +1,4 @@
--- A row needs no more room than its stored cells and the blanks behind them do.
+-- A row needs no more room than its stored cells and the blanks after them do.
 use Rattle.std.proofs.Common.{◌≡◌, ℕ, zero, suc, ◌+◌, ◌-◌, ◌≤◌, List, [], ◌∷◌, ◌++◌, length, arith, inl, inr, refl, ap, Option, Some, None}
 use Rattle.std.proofs.lemmas.Bool.{cases_Bool}
 use Rattle.std.proofs.lemmas.Grind.{flat_map-append}

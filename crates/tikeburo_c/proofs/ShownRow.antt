@@ -1,4 +1,4 @@
--- The stored cells of a row and default blanks behind them are what the row shows.
+-- The stored cells of a row and default blanks after them are what the row shows.
 use Rattle.std.proofs.Common.{◌≡◌, ℕ, zero, suc, ◌+◌, ◌-◌, ◌<◌, ◌≤◌, false, true, not, List, [], ◌∷◌, ◌++◌, length, arith, inl, inr, append-nil, append_assoc, add-zero, le_refl, refl, subst, sym, ap, ◌∙◌, Some, None, option_map, slice_get}
 use Rattle.std.proofs.lemmas.Bool.{and_left, cases_Bool}
 use Rattle.std.proofs.lemmas.List.{get_or_past, length-append}
@@ -24,7 +24,7 @@ module _ (w : ℕ) (cs : List CellValue) (closed : (k : ℕ) → suc k < w → i
   narrow : (k : ℕ) → length cs ≤ suc k → suc k < w → is_wide (stored cs k) ≡ false
   narrow k m l = elim (cases_Bool (is_wide (stored cs k))) [ inl t ↦ absurd (omega (arith, closed k l t)) | inr f ↦ f ]
 
-  -- no cell is hidden behind the stored ones
+  -- no cell is hidden after the stored ones
   past_hides : (k : ℕ) → length cs ≤ k → k < w → hides cs k ≡ false
   past_hides zero m l = refl
   past_hides (suc k) m l = and_left (is_wide (stored cs k)) (not (hides cs k)) (narrow k m l)
@@ -39,7 +39,7 @@ module _ (w : ℕ) (cs : List CellValue) (closed : (k : ℕ) → suc k < w → i
   past_blank : (k : ℕ) → length cs ≤ k → k < w → stored (row_of w cs) k ≡ blank
   past_blank k m l = row_of_at w cs k l ∙ settled_visible cs k (past_hides k m l) ∙ get_or_past cs k blank m
 
-  -- from a column behind the stored cells on, the row shows default blanks
+  -- from a column after the stored cells on, the row shows default blanks
   pub blanks_behind : (n k : ℕ) → length cs ≤ k → k + n ≤ w → visible_upto (row_of w cs) (k + n) ≡ visible_upto (row_of w cs) k ++ blanks_at k n
   blanks_behind zero k m l = ap (visible_upto (row_of w cs)) (add-zero k) ∙ sym (append-nil (visible_upto (row_of w cs) k))
   blanks_behind (suc n) k m l =

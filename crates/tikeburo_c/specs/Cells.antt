@@ -32,7 +32,7 @@ ReadsLine row s = of_row (slice_get s.flags row)
     of_row (Some flags) = Returns (line_number (line_attribute flags))
     of_row None = Refused Range
 
--- the cell at a column of a row, if there is one: a default blank stands behind the stored ones
+-- the cell at a column of a row, if there is one: a default blank stands after the stored ones
 abbrev pub cell_in : ℕ → ℕ → SurfaceValue ChosenWidths → Option CellValue
 cell_in column row s = of_row (slice_get s.lines row)
   where

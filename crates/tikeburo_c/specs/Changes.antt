@@ -36,7 +36,7 @@ AddsListUnlogged changes old outcome new =
     AddsUnlogged (columns_by old.surface.widths) old.surface changes number added new.surface ×
     PreservesServing columns_by old new
 
--- the one list that the bytes encode, with nothing behind it
+-- the one list that the bytes encode, with nothing after it
 abbrev pub IsOnlyList : (List ℕ → ℕ) → List ℕ → Result (Vec Change Global) Failure → Type 0
 IsOnlyList measure bytes (Ok x) =
     (bytes ≡ changes measure (map change_value x.items)) ×

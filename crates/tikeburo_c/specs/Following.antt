@@ -71,7 +71,7 @@ pub record StepsTo (s : SurfaceValue ChosenWidths) (old : Follower) (result : Re
   pub failed : OnErr result (new.viewer.last ≡ 0)
   pub numbered : NumbersRows old.viewer.surface new.viewer.surface
 
--- the viewer follows the surface of this number, whomever it followed before
+-- the viewer follows the surface of this number, whichever it followed before
 pub record FollowsAs (number : ℕ) (s : SurfaceValue ChosenWidths) (old : Follower)
     (result : Result ℕ SurfaceError) (new : Follower) : Type 0 where
   pub steps : StepsTo s (turned_to number s old) result new

@@ -25,7 +25,7 @@ abbrev pub line_diff : SurfaceValue ChosenWidths → ℕ → List CellValue → 
 line_diff s row cells =
     diff (screen_of s).rows (row_of s.width cells ∷ []) (one_row (screen_of s) row)
 
--- the changes that draw it: they set cursor and pen as they were behind what they print
+-- the changes that draw it: after what they print they restore cursor and pen
 abbrev pub line_drawing : SurfaceValue ChosenWidths → ℕ → List CellValue → List ChangeValue
 line_drawing s row cells = restoring s.x s.y s.pen (line_diff s row cells)
 

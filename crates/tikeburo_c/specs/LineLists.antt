@@ -18,7 +18,7 @@ use Rattle.tikeburo_c.specs.declared.widths.ChosenWidths.{ChosenWidths}
 abbrev pub MakesLines : Option Kept → Outcome → Option Kept → Type 0
 MakesLines = OrNoMemory (Returns (Some (Lines [])))
 
--- a copy of this row of a surface, as it is stored, comes behind the lines
+-- a copy of this row of a surface, as it is stored, comes after the lines
 pub record HasPushed (row : ℕ) (s : SurfaceValue ChosenWidths) (old new : List LineValue) :
     Type 0 where
   pub line : LineValue
@@ -40,11 +40,11 @@ abbrev pub PushesFrom : Option Kept → ℕ → Option Kept → Outcome → Opti
 PushesFrom (Some source) row = OfKind (λ s. OnLines (Pushes row s)) (shown_of source)
 PushesFrom None row = Refused NoHandle
 
--- there are so many lines from this one on
+-- there are `count` lines from the line at `first` on
 abbrev pub has_lines : ℕ → ℕ → List LineValue → Bool
 has_lines first count lines = nat_le (first + count) (length lines)
 
--- so many lines from this one on go
+-- `count` lines from the line at `first` on are removed
 abbrev pub Removes : ℕ → ℕ → List LineValue → Outcome → List LineValue → Type 0
 Removes first count old outcome new =
     MatchBool (has_lines first count old)
@@ -82,7 +82,7 @@ Compresses first count old outcome new =
     ((outcome ≡ Err Memory) × (map line_contents new ≡ map line_contents old)))
     (Refused Range old outcome new)
 
--- each line is wrapped to the width, and its lines come behind those of the line before
+-- each line is wrapped to the width, and its lines come after those of the line before
 abbrev pub AreWrapped : ℕ → List LineValue → List LineValue → Type 0
 AreWrapped width [] new = new ≡ []
 AreWrapped width (line ∷ lines) new =

@@ -150,7 +150,7 @@ first_in f texts = in_range (kind_in f.kind) >>= λ k.
     if nat_lt (length texts) (text_len k f) then Err Range
     else (change_in k f (take (text_len k f) texts) >>= λ c. Ok (c, drop (text_len k f) texts))
 
--- the changes of a list, whose texts are behind one another with nothing after them, or the first
+-- the changes of a list, whose texts follow one another with nothing after them, or the first
 -- fault
 unfoldable pub listed_in : List ChangeFields → List ℕ → Result (List ChangeValue) Failure
 listed_in [] [] = Ok []

@@ -43,7 +43,7 @@ widths_where width height source widths =
 abbrev pub widths_for : ℕ → ℕ → ℕ → ℕ → Option ChosenWidths
 widths_for width height source number = widths_where width height source (widths_at number)
 
--- the same by a table of widths, if the ranges are one
+-- a surface is made that measures by a table of widths, if the ranges are one
 abbrev pub MakesSurfaceBy :
     ℕ → ℕ → ℕ → Bor (List WidthRange) → Option Kept → Outcome → Option Kept → Type 0
 MakesSurfaceBy width height source ranges old outcome new =
@@ -74,23 +74,23 @@ blank_client widths limits =
       stopped = None;
     }
 
--- limits of so many cells and bytes, and of as many rows as are usual
+-- limits of this many cells and bytes, and of as many rows as are usual
 abbrev pub usual_rows : ℕ → ℕ → Limits
 usual_rows cells bytes = record { cells = cells; rows = 65536; bytes = bytes }
 
--- the widths, where there are some, and an answer may have so many bytes, and not 0
+-- the widths, where there are some, and the limit of an answer's bytes isn't 0
 abbrev pub limited : ℕ → Option ChosenWidths → Option ChosenWidths
 limited bytes widths = if nat_lt 0 bytes then widths else None
 
 abbrev pub widths_within : ℕ → ℕ → Option ChosenWidths
 widths_within bytes number = limited bytes (widths_at number)
 
--- such a client is made, in the place of what the handle had
+-- a client of these widths and limits is made, in the place of what the handle had
 abbrev pub MakesClient : Option ChosenWidths → Limits → Option Kept → Outcome → Option Kept → Type 0
 MakesClient (Some widths) limits = OrNoMemory (Returns (Some (Client (blank_client widths limits))))
 MakesClient None limits = Refused Range
 
--- the same by a table of widths, if the ranges are one
+-- a client is made that measures by a table of widths, if the ranges are one
 abbrev pub MakesClientBy :
     Bor (List WidthRange) → Limits → Option Kept → Outcome → Option Kept → Type 0
 MakesClientBy ranges limits old outcome new =

@@ -42,7 +42,7 @@ abbrev pub unread_by : FaultKind → Failure
 unread_by faults.Truncated = Truncated
 unread_by _ = Unreadable
 
--- why bytes are no whole value, of which this is decoded: the fault, or bytes behind the value
+-- why bytes are no whole value, of which this is decoded: the fault, or bytes after the value
 abbrev pub unread_as : {A : Type 0} → Result (A × List ℕ) Fault → Failure
 unread_as (Ok x) = Unreadable
 unread_as (Err f) = unread_by f.kind

@@ -53,7 +53,7 @@ OnClient P (Some (Viewer f)) outcome new = Refused WrongKind (Some (Viewer f)) o
 OnClient P (Some (Lines l)) outcome new = Refused WrongKind (Some (Lines l)) outcome new
 OnClient P None outcome new = Refused NoHandle None outcome new
 
--- and to what else it writes
+-- the call did this to the client that the handle has, and to what else it writes
 abbrev pub OnClientAnd :
     {A : Type 0} → (ClientValue ChosenWidths × A → Outcome → ClientValue ChosenWidths × A → Type 0) →
     Option Kept × A → Outcome → Option Kept × A → Type 0

@@ -39,7 +39,7 @@ row_cell begin run c = record {
   has_link = is_some c.attrs.hyperlink;
 }
 
--- cells whose texts begin at this byte, after so many runs of attributes: each has the last run
+-- cells whose texts begin at this byte, after `runs` runs of attributes: each has the last run
 abbrev pub cells_from : ℕ → ℕ → Option Attributes → List VisibleCell → List RowCellFields
 cells_from begin runs before [] = []
 cells_from begin runs before (p ∷ ps) =

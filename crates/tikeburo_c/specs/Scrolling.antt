@@ -21,8 +21,8 @@ use Rattle.tikeburo_c.specs.declared.widths.ChosenWidths.{ChosenWidths}
 abbrev pub rows_off : SurfaceValue ChosenWidths → List ChangeValue → List ShownRow
 rows_off s changes = rows_scrolled_off (columns_by s.widths) (screen_of s) (kept_of s) changes
 
--- Lines that show these rows come behind the old ones. Where memory was refused, the first of them
--- may, and after any other error none do.
+-- Lines that show these rows come after the old ones. Where memory was refused, the first of them
+-- may come, and after any other error none does.
 abbrev pub AddsRows :
     ℕ → List ShownRow → List LineValue → Outcome → List LineValue → Type 0
 AddsRows width rows old (Ok _) new = ScrollsOff width rows old new

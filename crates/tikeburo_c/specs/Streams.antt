@@ -30,7 +30,7 @@ use Rattle.tikeburo_c.specs.declared.widths.ChosenWidths.{ChosenWidths}
 
 -- ---- answers
 
--- the one ask that the bytes encode, with nothing behind it
+-- the one ask that the bytes encode, with nothing after it
 abbrev pub IsOnlyAsk : List ℕ → Result Ask Failure → Type 0
 IsOnlyAsk bytes (Ok a) = (bytes ≡ ask a) × ((b : Ask) → IsAsk b → bytes ≡ ask b → a ≡ b)
 IsOnlyAsk bytes (Err failure) =
@@ -266,7 +266,7 @@ pub record IsLonger (surface client : Option Kept) (room : ℕ) : Type 0 where
   pub response : RespondsIn surface client bytes
   pub longer : room < length bytes
 
--- what may come of bringing an answer to a client by a buffer of so many bytes: it is taken, memory
+-- what may come of bringing an answer to a client by a buffer of `room` bytes: it is taken, memory
 -- is refused, the client doesn't take it or has no more numbers for it, or it is longer than the
 -- buffer
 abbrev pub MayCarry : Option Kept → Option Kept → ℕ → Outcome → Type 0

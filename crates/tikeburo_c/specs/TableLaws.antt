@@ -30,7 +30,7 @@ narrow_range c r h low high has =
       | inr y ↦ let lt = ltb-true 0x7E r.first y in absurd (omega arith)
     ]
 
--- so it has one, or no range has it
+-- a printable character of ASCII has one column, or no range has it
 plain_given : (c from : ℕ) (ranges : List WidthRange) → rises_from from ranges ≡ true → 0x20 ≤ c → c ≤ 0x7E → MatchOption (columns_at ranges c) ⊤ (λ n. n ≡ 1)
 plain_given c from [] h low high = cc
 plain_given c from (r ∷ rs) h low high =

@@ -25,7 +25,7 @@ abbrev pub MeasuresText : Option ChosenWidths → List ℕ → ℕ → Outcome �
 MeasuresText (Some widths) bytes = ReadsText (columns_of (columns_by widths)) bytes
 MeasuresText None bytes = Refused Range
 
--- the same by a table of widths, if the ranges are one
+-- the columns of the text's graphemes together, by a table of widths, if the ranges are one
 abbrev pub MeasuresTextBy : Bor (List WidthRange) → List ℕ → ℕ → Outcome → ℕ → Type 0
 MeasuresTextBy ranges bytes old outcome new =
     (widths : Option ChosenWidths) × AreBy ranges widths × MeasuresText widths bytes old outcome new

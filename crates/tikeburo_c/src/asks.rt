@@ -53,7 +53,8 @@ fn read_ask(bytes: &[u8], source: &mut usize, number: &mut usize) -> Result<(), 
     Ok(())
 }
 
-/// Writes the ask of whoever shows what this number names of the surface of this number.
+/// Writes the ask of a client that shows what `number` names of the surface with the number
+/// `source`.
 #[unsafe(no_mangle)]
 pub extern "C" fn tk_make_ask(
     alloc: Global,

@@ -39,7 +39,7 @@ pub(crate) fn add_list(
     Ok(())
 }
 
-/// Makes changes on a surface, which doesn't log them.
+/// Applies changes to a surface, which doesn't log them.
 pub(crate) fn add_list_unlogged(
     surface: &mut Source<ChosenWidths>,
     changes: &[LentChange<'_>],
@@ -57,7 +57,7 @@ fn add_bytes(alloc: Global, surface: &mut Source<ChosenWidths>, bytes: &[u8]) ->
     add_list(surface, changes)
 }
 
-/// Makes the list of changes that these bytes encode.
+/// Applies the list of changes that these bytes encode.
 #[unsafe(no_mangle)]
 pub extern "C" fn tk_add_encoded(alloc: Global, handle: &mut Handle, bytes: &[u8]) -> i32
     ensures { Reports result (λ outcome. OnSurface (AddsBytes bytes.now)

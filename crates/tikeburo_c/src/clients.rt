@@ -75,7 +75,7 @@ fn make_client(
     Ok(())
 }
 
-// So many cells and bytes, and as many rows as are usual.
+// The limits of this many cells and bytes, and of as many rows as are usual.
 fn limits(cells: usize, bytes: usize) -> Limits
     ensures { result ≡ usual_rows cells bytes }
 {
@@ -106,8 +106,8 @@ pub extern "C" fn tk_client_new(
     status(outcome)
 }
 
-/// Makes such a client that measures by a table. The ranges stay as they are as long as the program
-/// runs.
+/// Makes a client as `tk_client_new` does, but one that measures by a table. The ranges must stay
+/// as they are while the program runs.
 #[unsafe(no_mangle)]
 pub extern "C" fn tk_client_new_by(
     alloc: Global,
@@ -152,7 +152,7 @@ fn fields_at(kind: u8, at: usize, change: Option<usize>) -> FaultFields
     }
 }
 
-// What a call of a client comes to that failed, with the fault in the struct where there is one.
+// Why a call of a client failed, with the fault in the struct where there is one.
 fn failed(error: ClientError, fault: &mut FaultFields) -> Failure
     ensures { Fails error fault.old (Err result) fault.new }
 {
@@ -334,7 +334,7 @@ fn give_kept_ask(
     }
 }
 
-/// Writes what to send to a surface, by which it answers.
+/// Writes the ask to send to a surface, which says what the client shows.
 #[unsafe(no_mangle)]
 pub extern "C" fn tk_client_ask(
     alloc: Global,

@@ -182,8 +182,8 @@ pub extern "C" fn tk_diff_screens_distinct(
     status(outcome)
 }
 
-/// The changes that make a region of the first handle's screen show what one of this size of the
-/// other one's does.
+/// The changes that make a region of the first handle's screen show what a region of the same size
+/// of the other one's does.
 #[unsafe(no_mangle)]
 pub extern "C" fn tk_diff_region_distinct(
     alloc: Global,

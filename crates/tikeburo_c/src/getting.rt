@@ -113,7 +113,7 @@ fn give_changes_of(
     give_changes(alloc, surface, since, list, texts, counts)
 }
 
-/// The changes that a viewer lacks that was last given this number, as `tk_add_changes` takes them,
+/// The changes that a viewer that was last given this number lacks, as `tk_add_changes` takes them,
 /// or a repaint. A link has its uri alone, and a pen no link to an empty one.
 #[unsafe(no_mangle)]
 pub extern "C" fn tk_get_changes(

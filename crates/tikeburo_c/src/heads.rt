@@ -50,7 +50,7 @@ fn read_head(bytes: &[u8], head: &mut HeadFields) -> Result<(), Failure>
     }
 }
 
-/// What the answer says at its head that the bytes begin with. Its changes need not be there.
+/// What the answer that the bytes begin with says at its head. Its changes need not be there.
 #[unsafe(no_mangle)]
 pub extern "C" fn tk_answer_head(bytes: &[u8], head: &mut HeadFields) -> i32
     ensures { Reports result (λ outcome.

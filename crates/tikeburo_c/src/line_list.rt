@@ -67,7 +67,8 @@ impl LineList {
         Ok(())
     }
 
-    /// Removes so many lines from this one on. The memory of the first ones serves new rows.
+    /// Removes `count` lines from the line at `first` on. The memory of lines that are removed from
+    /// the front serves new rows.
     pub(crate) fn remove(&mut self, first: usize, count: usize) -> Result<(), Failure>
         ensures { Removes first count self.old result self.new }
     {
@@ -82,7 +83,7 @@ impl LineList {
         Ok(())
     }
 
-    // Whether there are so many lines from this one on.
+    // Whether there are `count` lines from the line at `first` on.
     fn has(&self, first: usize, count: usize) -> bool
         ensures { result ≡ has_lines first count self.now }
     {
@@ -90,7 +91,7 @@ impl LineList {
         first <= len && count <= len - first
     }
 
-    /// Stores so many lines from this one on as texts, where they may be.
+    /// Stores `count` lines from the line at `first` on as texts, where they may be.
     pub(crate) fn compress(&mut self, first: usize, count: usize) -> Result<(), Failure>
         ensures { Compresses first count self.old result self.new }
     {

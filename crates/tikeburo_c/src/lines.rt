@@ -61,7 +61,7 @@ pub extern "C" fn tk_lines_count(alloc: Global, handle: &mut Handle, count: &mut
     status(outcome)
 }
 
-/// Removes so many lines from this one on.
+/// Removes `count` lines from the line at `first` on.
 #[unsafe(no_mangle)]
 pub extern "C" fn tk_lines_remove(
     alloc: Global,
@@ -135,7 +135,7 @@ pub extern "C" fn tk_lines_push_row_distinct(
     status(outcome)
 }
 
-/// Stores so many lines from this one on in less memory. What they show is as before.
+/// Stores `count` lines from the line at `first` on in less memory. What they show is as before.
 #[unsafe(no_mangle)]
 pub extern "C" fn tk_lines_compress(
     alloc: Global,

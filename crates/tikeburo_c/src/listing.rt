@@ -210,7 +210,7 @@ fn no_text(x: Position, y: Position) -> &'static str
     ""
 }
 
-/// Changes as structs, and their texts behind one another.
+/// Changes as structs, and their texts, one after another.
 #[derive(Drop)]
 pub(crate) struct ChangeList {
     pub list: Vec<ChangeFields>,

@@ -329,7 +329,7 @@ fn push_first<'a>(
     Ok(others)
 }
 
-/// The changes of a list, whose texts are behind one another.
+/// The changes of a list, whose texts follow one another.
 #[inline(always)]
 #[tactic(auto, using(crate::proofs::Listed::from_first))]
 pub(crate) fn listed_in(
@@ -366,7 +366,7 @@ fn add_listed(
     add_list(surface, changes)
 }
 
-/// Makes a list of changes, whose texts are behind one another.
+/// Applies a list of changes, whose texts follow one another.
 #[unsafe(no_mangle)]
 pub extern "C" fn tk_add_changes(
     alloc: Global,

@@ -17,7 +17,7 @@ fn is_width_range(range: &WidthRange) -> bool
     (range.first <= range.last && range.last <= 0x10FFFF) && (range.columns <= 2 && is_narrow)
 }
 
-/// Whether each range is one that a table may have, and begins behind the one before it.
+/// Whether each range is one that a table may have, and begins after the one before it.
 pub(crate) fn is_table(ranges: &[WidthRange]) -> bool
     ensures { result ≡ is_table ranges.now }
 {

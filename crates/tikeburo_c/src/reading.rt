@@ -1,4 +1,4 @@
-//! What a surface shows, or a viewer's.
+//! What a surface, a viewer or a client shows.
 ghost use Rattle.std.specs.Prelude.{◌≡◌, ℕ};
 ghost use Rattle.termwiz_screen.specs.Log.{next_number};
 ghost use Rattle.tikeburo_c.specs.Handles.{kept_of};

@@ -176,7 +176,7 @@ pub(crate) fn write_parts(
         let bytes = cell.str().as_bytes();
         put_bytes(bytes, end, text);
         end += bytes.len();
-        // Of the plain cells behind it in the same run only the bytes are read.
+        // Of the plain cells after it in the same run only the bytes are read.
         let mut plain = 0;
         while let Some(byte) = cells.next_plain(attrs) {
             row_cells[written + plain] = plain_cell(first, end + plain);
@@ -209,8 +209,8 @@ fn texts_fit(cells: &[Cell], room: usize) -> bool
     true
 }
 
-/// Whether arrays of these lengths have room for all that these stored cells and so many blank ones
-/// behind them may need. Where they lack it, the row itself may still have room there.
+/// Whether arrays of these lengths have room for all that these stored cells and `blanks` blank
+/// ones after them may need. Where they lack it, the row itself may still have room there.
 #[tactic(auto, using(crate::proofs::RowNeeds::needs_cells, crate::proofs::RowNeeds::needs_attributes, crate::proofs::RowNeeds::needs_text))]
 pub(crate) fn have_room(
     stored: &[Cell],

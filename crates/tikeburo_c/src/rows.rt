@@ -30,7 +30,7 @@ pub(crate) fn put_front<T: Copy>(items: &[T], room: &mut [T])
     room[..items.len()].copy_from_slice(items);
 }
 
-// Gives these cells, which need so much.
+// Gives these cells, whose counts are `needed`.
 fn give_counted(
     needed: RowCounts,
     shown: ShownCells<'_>,
@@ -54,7 +54,7 @@ fn give_counted(
     Ok(())
 }
 
-// Gives the visible ones of these stored cells, and so many blank ones behind them.
+// Gives the visible ones of these stored cells, and `blanks` blank ones after them.
 #[tactic(auto, using(crate::proofs::ShownRow::are_few))]
 fn give_parts(
     stored: &[Cell],
@@ -186,7 +186,7 @@ fn give_shown_of(
 }
 
 /// The visible cells of a row within its stored length, the attributes of each run of cells that
-/// have the same ones, and the texts behind one another.
+/// have the same ones, and the texts, one after another.
 #[unsafe(no_mangle)]
 pub extern "C" fn tk_row_cells(
     alloc: Global,
@@ -214,8 +214,8 @@ pub extern "C" fn tk_row_cells(
     status(outcome)
 }
 
-/// The visible cells that a row shows in all columns of the width: blank ones stand behind those
-/// that are stored. The rest is as of `tk_row_cells`.
+/// The visible cells that a row shows in all columns of the width: blank ones stand after those
+/// that are stored. Attributes and texts are given as by `tk_row_cells`.
 #[unsafe(no_mangle)]
 pub extern "C" fn tk_shown_cells(
     alloc: Global,

@@ -97,7 +97,7 @@ fn add_logged_or_not(
     }
 }
 
-// Makes the listed changes on the surface that the handle has. It is no closure that takes the
+// Applies the listed changes to the surface that the handle has. It is no closure that takes the
 // lines, since nothing would be known of what it adds to them then.
 fn add_on(
     alloc: Global,
@@ -125,7 +125,7 @@ fn add_on(
     outcome
 }
 
-// Makes the listed changes, and appends the rows that they scroll off to the lines that the other
+// Applies the listed changes, and appends the rows that they scroll off to the lines that the other
 // handle has.
 fn add_keeping(
     alloc: Global,
@@ -152,7 +152,7 @@ fn add_keeping(
     outcome
 }
 
-/// Makes a list of changes, and appends the rows that they scroll off the top to lines.
+/// Applies a list of changes, and appends the rows that they scroll off the top to lines.
 #[unsafe(no_mangle)]
 pub extern "C" fn tk_add_changes_scrolling_distinct(
     alloc: Global,
@@ -172,8 +172,8 @@ pub extern "C" fn tk_add_changes_scrolling_distinct(
     status(outcome)
 }
 
-/// Makes a list of changes, logs none of them, and appends the rows that they scroll off the top to
-/// lines.
+/// Applies a list of changes, logs none of them, and appends the rows that they scroll off the top
+/// to lines.
 #[unsafe(no_mangle)]
 pub extern "C" fn tk_add_unlogged_scrolling_distinct(
     alloc: Global,

@@ -1,4 +1,4 @@
-//! The visible cells of a row, with blank ones behind those that are stored.
+//! The visible cells of a row, with blank ones after those that are stored.
 ghost use Rattle.std.specs.Prelude.{◌≡◌, ◌+◌, ◌<◌, ◌^◌, ◌++◌, MatchOption, length};
 ghost use Rattle.termwiz_cell.specs.CellValue as cell_value;
 ghost use Rattle.termwiz_storage.specs.{IsPlainFirst, YieldsCell, item_count, visible};
@@ -9,7 +9,7 @@ use termwiz_cell::cell::{Cell, CellAttributes};
 use termwiz_storage::line::cellref::CellRef;
 use termwiz_storage::line::vecstorage::VecStorageIter;
 
-/// The visible cells of stored ones, and so many blank ones behind them.
+/// The visible cells of stored ones, and a number of blank ones after them.
 #[derive(Drop)]
 pub(crate) struct ShownCells<'a> {
     stored: VecStorageIter<'a>,
@@ -33,7 +33,7 @@ impl<'a> Model for ShownCells<'a> {
 }
 
 impl<'a> ShownCells<'a> {
-    /// The visible ones of these stored cells, and so many blank ones behind them.
+    /// The visible ones of these stored cells, and `blanks` blank ones after them.
     pub(crate) fn new(stored: &'a [Cell], blanks: usize, blank: &'a Cell) -> ShownCells<'a>
         requires blank { blank.now ≡ cell_value.blank }
         requires few { length stored.now + blanks < 2 ^ 64 }

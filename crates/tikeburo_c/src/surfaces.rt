@@ -1,4 +1,4 @@
-//! Surfaces: how they are made and freed, and take another size.
+//! Surfaces: how they are made, resized and freed.
 ghost use Rattle.std.specs.Prelude.{◌≡◌, IfErr, IfOk, IsTrue, None, ◌<◌};
 ghost use Rattle.termwiz_surface.specs.Surface.{IsSurfaceSize};
 ghost use Rattle.tikeburo_c.specs.Handles.{kept_of};
@@ -85,8 +85,8 @@ pub extern "C" fn tk_surface_new(
     status(outcome)
 }
 
-/// Makes a blank surface that measures by a table, with this number as a source. The ranges stay as
-/// they are as long as the program runs.
+/// Makes a blank surface that measures by a table, with this number as a source. The ranges must
+/// stay as they are while the program runs.
 #[unsafe(no_mangle)]
 pub extern "C" fn tk_surface_new_by(
     alloc: Global,
@@ -133,7 +133,7 @@ fn resize(alloc: Global, handle: &mut Handle, width: usize, height: usize) -> Re
     on_surface(alloc, handle, |surface| resize_one(surface, width, height))
 }
 
-/// Takes another size.
+/// Resizes the surface that the handle has.
 #[unsafe(no_mangle)]
 pub extern "C" fn tk_resize(alloc: Global, handle: &mut Handle, width: usize, height: usize) -> i32
     ensures { Reports result (λ outcome.

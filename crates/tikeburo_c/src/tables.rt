@@ -2,7 +2,7 @@
 ghost use Rattle.std.specs.Prelude.{◌≡◌, true};
 ghost use Rattle.tikeburo_c.specs.WidthRanges.{is_table};
 
-/// The characters from the first to the last, each of so many columns.
+/// The characters from `first` to `last`, each of `columns` columns.
 #[repr(C)]
 #[derive(Clone, Copy, PartialEq, Eq)]
 pub struct WidthRange {

@@ -99,7 +99,7 @@ fn add_unlogged(
     add_list_unlogged(surface, &changes)
 }
 
-/// Makes a list of changes, whose texts are behind one another, and logs none of them.
+/// Applies a list of changes, whose texts follow one another, and logs none of them.
 #[unsafe(no_mangle)]
 pub extern "C" fn tk_add_unlogged(
     alloc: Global,

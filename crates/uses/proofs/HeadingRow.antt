@@ -1,11 +1,11 @@
--- The row behind whose heading the cursor stands is shown twice as wide.
+-- The row in which the cursor stands after the heading is shown twice as wide.
 use Rattle.std.proofs.Common.{◌≡◌, ◌<◌, ℕ, List, map, set, get_or, length, arith, sym, ap, ◌∙◌, subst}
 use Rattle.std.proofs.lemmas.List.{get_or-set_same, length-map, length-set, map-set}
 use Rattle.termwiz_surface.specs.ChangeValue as change
 use Rattle.termwiz_surface.specs.{DoubleWidthLine, IsSound, Kept, LineFlags, Screen, SingleWidthLine, SurfaceValue, full_of, kept_of, line_attribute, no_flags, replay, replay_kept, screen_of, step, step_kept, with_line_attribute}
 use Rattle.uses.specs.Headings.{heading_changes}
 
--- a row whose flags were set so is shown so
+-- a row with the flag of double width is shown twice as wide
 set_wide : (fs : List LineFlags) (y : ℕ) (f : LineFlags) → y < length fs → get_or (map line_attribute (set fs y (with_line_attribute DoubleWidthLine f))) y SingleWidthLine ≡ DoubleWidthLine
 set_wide fs y f l =
     ap (λ ls. get_or ls y SingleWidthLine) (map-set line_attribute fs y (with_line_attribute DoubleWidthLine f))

@@ -16,7 +16,7 @@ use Rattle.termwiz_wire.specs.declared.fault.Limits.{Limits}
 use Rattle.termwiz_wire.specs.declared.sent.Ask.{Ask}
 use Rattle.uses.specs.Streams.{ShowsLast}
 
--- ---- one part of a list of answers behind another
+-- ---- one part of a list of answers after another
 
 pub after_append : (s : Shown) (given more : List Given) → after_all s (given ++ more) ≡ after_all (after_all s given) more
 after_append s [] more = refl
@@ -26,7 +26,7 @@ all_right : (P : Given → Type 0) (xs ys : List Given) → AllByRecursion P (xs
 all_right P [] ys all = all
 all_right P (x ∷ xs) ys all = all_right P xs ys all.1
 
--- ---- one piece of a stream behind another
+-- ---- one piece of a stream after another
 
 -- how it ended, without the count
 abbrev pub done : Result ℕ ClientError → Result (Unit {0}) ClientError

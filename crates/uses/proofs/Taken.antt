@@ -87,7 +87,7 @@ module _ {W : Type 0} (f : W → List ℕ → ℕ) (histories : ℕ → ℕ → 
         more outcomes.Shown n.0 n.2 (fit, picture)
     taken_more (outcomes.Stale at) n = more (outcomes.Stale at) n.0 (n.3 ∙ sym (ap (λ (b : Bool). if b then record { picture = n.0.first.shown; source = n.0.first.sent.source; number = n.0.first.sent.answer.number } else shown_by mid) n.1)) (subst (λ (s : Shown). fits s n.0.first.sent ≡ false) so_far.shows n.1)
 
-  -- ---- so many
+  -- ---- a number of answers
 
   pub record HasTakenSome (count : ℕ) (now : ClientValue W) : Type 0 where
     pub has : HasTaken now

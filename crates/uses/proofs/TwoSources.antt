@@ -123,7 +123,7 @@ module _ {W : Type 0} (f : W → List ℕ → ℕ) (client : ClientValue W) (a b
           shows ∙ (rw (last_fits (after_all (shown_by client) (h ∷ g ∷ h ∷ h ∷ []))) refl) in
           record { picture = ap (λ (s : Shown). s.picture) is; source = ap (λ (s : Shown). s.source) is; number = ap (λ (s : Shown). s.number) is ∙ last.number }
 
-      -- whoever is fed that shows the other source, or wants memory or numbers
+      -- a client that is fed that shows the other source, or wants memory or numbers
       pub ends_both : (bytes : List ℕ) → bytes ≡ in_turn late early other → (r : Result (Unit {0}) ClientError) (new : ClientValue W) → ((names : ℕ → ℕ → FullScreen) (sent : List Given) → Follows f names sent client bytes → ShowsLast f names sent client r new) → ShowsOrWants c r new
       ends_both bytes is r new shows = ended r new (shows histories sent_in_turn (follows_both bytes is))
         where

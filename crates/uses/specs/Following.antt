@@ -6,7 +6,7 @@ use Rattle.uses.specs.Turns.{InTurn}
 use Rattle.uses.specs.Making.{AddsList}
 
 module _ {W : Type 0} where
-  -- what a surface answers whoever has number n: what is due, or else its repaint
+  -- what a surface answers a viewer with number n: what is due, or else its repaint
   abbrev pub answer_for : SurfaceValue W → ℕ → List ChangeValue
   answer_for s n = if knows s n then due s.log n else own_repaint s
 
@@ -24,7 +24,7 @@ module _ {W : Type 0} (measure_of : W → List ℕ → ℕ) (s : SurfaceValue W)
   FollowsOnce old (Ok u) new = FollowsTo measure_of s old (Ok (next_number s.log)) new
   FollowsOnce old (Err e) new = FollowsTo measure_of s old (Err e) new
 
-  -- of viewers that follow in turn one fails to: those before it have followed, and those behind it
+  -- of viewers that follow in turn one fails to: those before it have followed, and those after it
   -- are as they were
   pub record StopsFollowing (old : List (ViewerValue W)) (error : SurfaceError)
       (new : List (ViewerValue W)) : Type 0 where

@@ -14,11 +14,11 @@ module _ {W : Type 0} (measure : List ℕ → ℕ) (old : SequenceValue W) (line
   abbrev pub with_hint : SequenceValue W
   with_hint = all_added measure old (prompt_texts line hint)
 
-  -- and the move to a column of the row where the sequence began
+  -- both texts, and the move to a column of the row where the sequence began
   abbrev pub prompted : ℕ → SequenceValue W
   prompted column = added measure with_hint (move_by with_hint (column, pos 0))
 
-  -- there is no memory for the texts; or one of them is refused, or the move behind them
+  -- there is no memory for the texts; or one of them is refused, or the move after them
   abbrev pub FailsToPrompt : ℕ → SequenceError → SequenceValue W → Type 0
   FailsToPrompt column error new =
       ((error ≡ Memory) × (new ≡ old))

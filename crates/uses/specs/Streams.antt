@@ -1,4 +1,4 @@
--- What a client shows of a whole stream, whoever its answers come from.
+-- What a client shows of a whole stream, whichever sources its answers come from.
 use Rattle.std.specs.Prelude.{◌≡◌, ◌⊎◌, ℕ, ◌-◌, ◌<◌, ◌^◌, true, None, List, [], ◌∷◌, ◌++◌, length, take, drop, Result, Ok, Err}
 use Rattle.termwiz_surface.specs.{ChangeValue, FullScreen, KeepsNames, SurfaceValue, blank_surface, full_of}
 use Rattle.termwiz_wire.specs.declared.fault.Limits.{Limits}
@@ -57,7 +57,7 @@ blank_client widths = record {
 }
 
 module _ {W : Type 0} (measure_of : W → List ℕ → ℕ) where
-  -- a source answers an ask, and then, behind a change, one more; what its numbers named they name
+  -- a source answers an ask, and then, after a change, one more; what its numbers named they name
   -- still
   pub record AnswersTwice (old : SourceValue W) (ask : Ask) (change : ChangeValue)
       (early late : List ℕ) (new : SourceValue W) : Type 0 where
@@ -77,7 +77,7 @@ module _ {W : Type 0} (measure_of : W → List ℕ → ℕ) where
     pub last_names : KeepsNames (measure_of old.surface.widths) changed new.surface
     pub made : full_of new.surface ≡ full_after measure_of old.surface (change ∷ [])
 
-  -- the source refuses the change; or there is no memory for an answer, before the change or behind
+  -- the source refuses the change; or there is no memory for an answer, before the change or after
   -- it
   abbrev pub FailsToAnswer :
       SourceValue W → ChangeValue → ShareError → SourceValue W → Type 0

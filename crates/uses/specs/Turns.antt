@@ -2,7 +2,7 @@
 use Rattle.std.specs.Prelude.{◌⊎◌, Result, Ok, Err}
 
 -- both succeed; or the first one fails, and what the second one is for stays; or the second one
--- fails behind it
+-- fails after it
 abbrev pub InTurn :
     {E : Type 0} → (Result (Unit {0}) E → Type 0) → Type 0 → (Result (Unit {0}) E → Type 0) →
     Result (Unit {0}) E → Type 0

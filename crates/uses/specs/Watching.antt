@@ -8,7 +8,7 @@ use Rattle.termwiz_share.specs.declared.error.ClientError.{ClientError}
 use Rattle.termwiz_share.specs.declared.error.ClientError.TheVariants.{Memory, Numbers}
 use Rattle.termwiz_share.specs.declared.taken.Taken.{Taken}
 
--- so many answers are taken, one behind another
+-- a number of answers are taken, one after another
 abbrev pub TakesInTurn :
     {W : Type 0} → (W → List ℕ → ℕ) → ℕ → ClientValue W → ClientValue W → Type 0
 TakesInTurn measure_of zero old new = new ≡ old
@@ -26,19 +26,19 @@ pub record FailsAfterSome {W : Type 0} (measure_of : W → List ℕ → ℕ) (mo
   pub fails : TakesNext measure_of mid (Err error) new
 
 module _ {W : Type 0} (measure_of : W → List ℕ → ℕ) where
-  -- some answers are taken, one behind another
+  -- some answers are taken, one after another
   abbrev pub TakesAFew : ClientValue W → ClientValue W → Type 0
   TakesAFew old new = (count : ℕ) × TakesInTurn measure_of count old new
 
-  -- behind some answers that the client takes the next one fails to be, or there is no memory for
-  -- the screen of the last one
+  -- after some answers that the client takes it fails to take the next one, or there is no memory
+  -- for the screen of the last one
   pub record FailsBehind (old : ClientValue W) (error : ClientError) (new : ClientValue W) :
       Type 0 where
     pub mid : ClientValue W
     pub takes : TakesAFew old mid
     pub fails : TakesNext measure_of mid (Err error) new ⊎ ((error ≡ Memory) × (new ≡ mid))
 
-  -- the bytes aren't kept, or it fails behind that
+  -- the bytes aren't kept, or it fails after that
   abbrev pub FailsToTakeEach :
       ClientValue W → List ℕ → ClientError → ClientValue W → Type 0
   FailsToTakeEach old piece error new =
@@ -56,7 +56,7 @@ stale_in s (g ∷ gs) = (if fits s g.sent then 0 else 1) + stale_in (after s g) 
 
 module _ {W : Type 0} (measure_of : W → List ℕ → ℕ) (histories : ℕ → ℕ → FullScreen)
     (sent : List Given) (future : List ℕ) where
-  -- so many of the answers are taken: at most most of them, and fewer where no other one is whole
+  -- `count` of the answers are taken: at most `most`, and fewer where no other one is whole
   pub record TakesSome (most : ℕ) (old : ClientValue W) (count : ℕ) (new : ClientValue W) :
       Type 0 where
     pub given : List Given
@@ -67,7 +67,7 @@ module _ {W : Type 0} (measure_of : W → List ℕ → ℕ) (histories : ℕ →
     pub follows : Follows measure_of histories others new future
     pub no_whole : count < most → HasMore (measure_of new.surface.widths) others new.kept
 
-  -- what those that are whole were given for is shown in turn, and so many of them are stale
+  -- what those that are whole were given for is shown in turn, and `stale` of them are stale
   pub record ShowsEach (old : ClientValue W) (before : List FullScreen) (stale : ℕ)
       (new : ClientValue W) (screens : List FullScreen) : Type 0 where
     pub given : List Given
@@ -78,7 +78,7 @@ module _ {W : Type 0} (measure_of : W → List ℕ → ℕ) (histories : ℕ →
     pub follows : Follows measure_of histories others new future
     pub no_whole : HasMore (measure_of new.surface.widths) others new.kept
 
-  -- want of memory or of numbers stops it, behind some of the answers
+  -- want of memory or of numbers stops it, after some of the answers
   pub record StopsShowing (old : ClientValue W) (before : List FullScreen) (error : ClientError)
       (new : ClientValue W) (screens : List FullScreen) : Type 0 where
     pub wants : (error ≡ Memory) ⊎ (error ≡ Numbers)

@@ -1,4 +1,4 @@
-//! A follower of one's own, which is sent what changed since it asked last.
+//! A follower of your own, which is sent what changed since it asked last.
 ghost use Rattle.std.specs.Prelude.{◌≡◌, ◌∷◌, [], Err, IfOk, OnErr, OnOk, false};
 ghost use Rattle.uses.specs.{AddsAll, CatchesUp, Follows, InTurn, ScrollRegion, ViewerValue};
 ghost use Rattle.uses.specs.{blank_surface, change_value, measure, next_number, screen_after};

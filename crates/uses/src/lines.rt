@@ -26,9 +26,8 @@ pub fn heading<W: Widths>(
 }
 
 /// Sets the letters of kana and the common ideographs that a text begins with, in order from a
-/// column on, as many as fit in so many columns, and returns what follows them in the text.
-/// The line takes the number, and keeps its flags. On an error number, flags and cells are as
-/// before.
+/// column on, as many as fit in `columns` columns, and returns what follows them in the text. The
+/// line takes the number, and keeps its flags. On an error number, flags and cells are as before.
 pub fn set_first_letters<'a>(
     line: &mut Line,
     column: usize,

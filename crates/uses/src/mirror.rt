@@ -1,4 +1,4 @@
-//! A viewer of one's own, which mirrors a surface by repaints.
+//! A viewer of your own, which mirrors a surface by repaints.
 ghost use Rattle.std.specs.Prelude.{◌≡◌, IfOk, OnOk, false};
 ghost use Rattle.uses.specs.{AddsList, SurfaceValue, blank_surface, measure, own_repaint};
 ghost use Rattle.uses.specs.{screen_of};

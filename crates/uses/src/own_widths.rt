@@ -1,4 +1,4 @@
-//! A width value of one's own: the widths of the Unicode tables, but for one character.
+//! A width value of your own: the widths of the Unicode tables, but for one character.
 ghost use Rattle.std.specs.Prelude.{◌≡◌, IfOk, false};
 ghost use Rattle.uses.specs.{IsSurfaceSize, blank_surface};
 

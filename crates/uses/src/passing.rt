@@ -16,7 +16,7 @@ use termwiz_wire::{Ask, Head, Limits, decode_head};
 pub fn pass_on<W: Widths>(client: &mut Client<W>, response: &[u8]) -> Result<bool, ClientError>
     // Whatever the bytes are.
     ensures fed { PassesOn (measure W.width_of) client.old response.now result client.new }
-    // Whoever the source has answered.
+    // Whichever client's ask the source has answered.
     ensures shows { (source : SourceValue W) (ask : Ask) →
         Serves (measure W.width_of) source client.old → IsReady client.old →
         IsResponse (measure W.width_of) source ask response.now → result ≡ Ok true →

@@ -9,8 +9,7 @@ use termwiz_surface::laws::{diff_laws, equality_laws, fewest_prints};
 use termwiz_surface::{Change, Surface, SurfaceError, Widths};
 
 /// The patch that makes a surface show the rows of another one of its size that measures texts as
-/// it does. Whoever paints these rows in another way, cell by cell, paints at least a third as many
-/// cells.
+/// it does. Any other way to paint these rows, cell by cell, paints at least a third as many cells.
 pub fn patch_to<W: Widths>(
     surface: &Surface<W>,
     target: &Surface<W>,
@@ -39,8 +38,9 @@ pub fn patch_to<W: Widths>(
     Ok(patch)
 }
 
-/// Applies a patch: the surface has the screen where it leads. A diff of the surface and some rows
-/// of its size leads to these rows. A patch that is refused leaves what `add_changes` says.
+/// Applies a patch: the surface then has the screen to which it leads. A diff of the surface and
+/// some rows of its size leads to these rows. A patch that is refused leaves what `add_changes`
+/// says.
 pub fn apply_patch<W: Widths>(
     surface: &mut Surface<W>,
     patch: Vec<Change>,

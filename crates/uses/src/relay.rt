@@ -6,10 +6,9 @@ ghost use Rattle.uses.specs.{screen_of};
 use termwiz_surface::{Surface, SurfaceError, Viewer, Widths};
 
 /// Shows a surface on a far viewer by way of a near one: the near viewer follows the surface, and
-/// the far one follows the near one's own surface.
-/// After an error, which is `Numbers` or `Memory`, the viewer that failed may show anything, and
-/// the far one is as it was where that is the near one. The next call that succeeds shows the
-/// surface on both.
+/// the far one follows the near one's own surface. After an error, which is `Numbers` or `Memory`,
+/// the viewer that failed may show anything. Where that is the near one, the far one is as it was.
+/// The next call that succeeds shows the surface on both.
 pub fn relay<W: Widths>(
     surface: &Surface<W>,
     near: &mut Viewer<W>,

@@ -25,8 +25,8 @@ pub fn show_heading<W: Widths>(
     // The remote terminal has the session's screen, title, cursor's shape and colour, and sizes of
     // rows.
     ensures shown { OnOk result (full_of remote.new.surface ≡ full_of session.new) }
-    // The heading is its title, and the row behind whose heading the cursor stands is shown twice
-    // as wide.
+    // The heading is its title, and the row in which the cursor stands after the heading is shown
+    // twice as wide.
     ensures title { OnOk result (remote.new.surface.title ≡ heading.now) }
     ensures wide { OnOk result (let shown = full_of remote.new.surface in
         slice_index_or shown.lines shown.screen.y SingleWidthLine ≡ DoubleWidthLine) }

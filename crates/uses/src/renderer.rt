@@ -35,10 +35,10 @@ pub fn refresh<W: Widths>(
 }
 
 /// Shows on all its viewers what the surface shows, and lets the surface forget its changes then,
-/// since each viewer has them.
-/// It stops at a viewer that fails, by `Numbers` or `Memory`: the surface and the viewers behind
-/// that one are as before, those before it show the screen, and it is what that error of
-/// `Viewer::follow` leaves. A turn that succeeds shows the screen on all of them.
+/// since each viewer has them. It stops at a viewer that fails, by `Numbers` or `Memory`: the
+/// surface and the viewers after that one are as before, those before it show the screen, and it is
+/// what that error of `Viewer::follow` leaves. A turn that succeeds shows the screen on all of
+/// them.
 pub fn refresh_all<W: Widths>(
     surface: &mut Surface<W>,
     viewers: &mut [Viewer<W>],

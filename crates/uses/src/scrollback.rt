@@ -24,7 +24,7 @@ pub fn print_and_keep<W: Widths>(
     ensures adds { AddsUnlogged (measure W.width_of surface.old.widths)
         surface.old (printed_text output.now) (next_number surface.old.log - 1 + 1)
         result surface.new }
-    // Behind the old lines there are those that show the rows as they were shown, and no others.
+    // After the old lines there are those that show the rows as they were shown, and no others.
     ensures keeps { AddsScrolledOff surface.old.width
         (rows_scrolled_off (measure W.width_of surface.old.widths) (screen_of surface.old)
         (kept_of surface.old) (printed_text output.now))
@@ -60,7 +60,7 @@ pub fn store(line: &mut Line) -> Result<(), AllocError>
 }
 
 /// A copy of what a line shows, with its number and its flags, which is stored as one text,
-/// whatever stands behind its wide cells.
+/// whatever stands after its wide cells.
 pub fn stored_copy(line: &Line) -> Result<Line, AllocError>
     ensures shows { IfOk result (λ copy. visible copy.cells ≡ visible line.now.cells) }
     ensures number { IfOk result (λ copy. copy.seqno ≡ line.now.seqno) }

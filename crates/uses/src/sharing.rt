@@ -69,7 +69,7 @@ pub fn reconnect<W: Widths>(
         OnOk result (ShowsNamed screens past viewer.new) }
     ensures served { IsServed screens (measure W.width_of) viewer.new surface.now }
 {
-    // What its number names leads it on, as whoever follows is led.
+    // What its number names leads it on, as a viewer that follows is led.
     history_laws();
     viewer.follow(surface)
 }

@@ -122,7 +122,7 @@ fn stream_of_both<W: Widths>(
     Ok(stream)
 }
 
-// The answer of a source to an ask, and the one behind a change to whoever has that.
+// The answer of a source to an ask, and the one after a change to a client that has the first.
 fn answer_twice<W: Widths>(
     alloc: Global,
     source: &mut Source<W>,

@@ -11,8 +11,8 @@ use termwiz_share::{Client, ClientError, Taken};
 use termwiz_surface::{FullScreen, Widths};
 
 /// Feeds a client the next bytes of a stream, and adds each screen that it shows then to a list. It
-/// returns how many answers were stale. After an error the list has the screens so far, of which
-/// the last one may lack.
+/// returns how many answers were stale. After an error the list has the screens so far, perhaps
+/// without the last one.
 pub fn show_each<W: Widths>(
     client: &mut Client<W>,
     piece: &[u8],
@@ -70,7 +70,7 @@ pub fn take_some<W: Widths>(client: &mut Client<W>, most: usize) -> Result<usize
     ensures follows { (histories : ℕ → ℕ → Picture) (sent : List Given) (future : List ℕ) →
         Follows (measure W.width_of) histories sent client.old future → IfOk result (λ count.
         TakesSome (measure W.width_of) histories sent future most client.old count client.new) }
-    // It fails as the call that takes one answer does, behind some that it took.
+    // It fails as the call that takes one answer does, after some that it took.
     ensures fails { IfErr result (λ error.
         FailsAfterSome (measure W.width_of) most client.old error client.new) }
 {

@@ -12,7 +12,7 @@ pub fn answer(turn: &mut Turn<'_>) {
     }
 }
 
-// The bytes of the items, one behind the other.
+// The bytes of the items, one after another.
 fn put(turn: &mut Turn<'_>) {
     let mut bytes = Vec::new(turn.alloc);
     for word in turn.rest().split(' ') {
@@ -38,7 +38,7 @@ fn put_item(turn: &mut Turn<'_>, bytes: &mut Vec<u8>, word: &str) {
     turn.note(put);
 }
 
-// What the calls return in turn, and how many bytes are left behind them.
+// What the calls return in turn, and how many bytes are left after them.
 fn read(turn: &mut Turn<'_>) {
     let (limit, word) = (turn.word(), turn.word());
     let bytes = turn.bytes_of(word);
@@ -72,7 +72,7 @@ fn push_call(turn: &mut Turn<'_>, reader: &mut Reader<'_>, call: &str) {
 }
 
 impl Turn<'_> {
-    /// Answers a mark, and what `{:?}` shows of a value behind it.
+    /// Answers a mark, and what `{:?}` shows of a value after it.
     pub fn push_shown<T: Debug + Drop>(&mut self, mark: &str, value: T) {
         write!(self, "{mark}{value:?}");
     }

@@ -25,7 +25,7 @@ impl Play for Player {
     }
 }
 
-// Behind each space stands a part.
+// After each space stands a part.
 fn parse(turn: &mut Turn<'_>) {
     let mut parts: Vec<Vec<u8>> = Vec::new(turn.alloc);
     for word in turn.rest().split(' ').skip(1) {

@@ -36,7 +36,7 @@ impl<'a> Turn<'a> {
         }
     }
 
-    /// Answers a mark, and the word of a text behind it.
+    /// Answers a mark, and the word of a text after it.
     pub fn push_word(&mut self, mark: &str, text: &str) {
         self.push_str(mark);
         self.push_escaped(text);
@@ -65,7 +65,7 @@ pub fn answer(turn: &mut Turn<'_>, topic: &str) {
     }
 }
 
-// The text of a word, or of `N*` and a word: so many times that text.
+// The text of a word, or of `N*` and a word: N times that text.
 fn repeated(turn: &mut Turn<'_>) -> String {
     let word = turn.word();
     let (count, word) = word.split_once('*').unwrap_or(("1", word));
@@ -75,7 +75,7 @@ fn repeated(turn: &mut Turn<'_>) -> String {
     turn.kept(repeated).unwrap_or(text)
 }
 
-// Graphemes with a bar behind each.
+// Graphemes with a bar after each.
 fn push_pieces(turn: &mut Turn<'_>, pieces: Result<Vec<&str>, AllocError>) {
     if let Some(pieces) = turn.kept(pieces) {
         for piece in &pieces {
@@ -96,8 +96,8 @@ fn split<'a>(turn: &mut Turn<'_>, how: &str, limit: usize, text: &'a str) -> (&'
     }
 }
 
-// The run of at most so many characters that the text begins with, and the rest; or, with no
-// number, how many characters the runs have for each one from 0 to 29.
+// The run that the text begins with, of at most as many characters as the number says, and the
+// rest; or, with no number, how many characters the runs have for each number from 0 to 29.
 fn runs(turn: &mut Turn<'_>, how: &str, text: &str) {
     if let Some((how, limit)) = how.split_once('=') {
         let limit = turn.number_of(limit);

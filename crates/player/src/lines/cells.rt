@@ -32,8 +32,8 @@ pub fn push_stored(form: &str, cells: &[Cell], turn: &mut Turn<'_>) {
 
 /// Answers a cell in one of these forms.
 ///
-/// - `stored`, `shown`: its text; `lent`: the same with a bar behind it.
-/// - `cells`: its text behind its column, as `1b|`.
+/// - `stored`, `shown`: its text; `lent`: its text with a bar after it.
+/// - `cells`: its text after its column, as `1b|`.
 /// - `pens`: its pen.
 /// - `cell`, `visible`: its text, column, width and pen, and how it is shown.
 /// - others: its text, width and pen as in recorded answers.
@@ -57,8 +57,8 @@ pub fn push_cell(form: &str, cell: CellRef<'_>, turn: &mut Turn<'_>) {
     }
 }
 
-// Behind its column, where it is `placed`, and without the width and the pen of most cells, where
-// it is `kept`.
+// After its column, where it is `placed`, and without the width and the pen of most cells, where it
+// is `kept`.
 fn push_recorded(form: &str, cell: CellRef<'_>, turn: &mut Turn<'_>) {
     let (width, attrs) = (cell.width(), cell.attrs());
     turn.push(' ');

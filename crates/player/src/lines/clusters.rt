@@ -7,8 +7,9 @@ use termwiz_line::line::line::Line;
 
 /// Answers one of these of each of the line's clusters.
 ///
-/// - `clusters`: its text behind its column and its width, as `0:2か|2:1a|`; `cell-clusters`: the
-///   same of those that are made of the visible cells; `recorded`: the same in recorded answers.
+/// - `clusters`: its text after its column and its width, as `0:2か|2:1a|`; `cell-clusters`: this of
+///   the clusters that are made of the visible cells; `recorded`: this in the form of recorded
+///   answers.
 /// - `bytes`: the cells of its bytes, of the first cluster alone.
 /// - `looks`: its pen, how it is shown and where to.
 /// - `cluster-copies`: whether its copy has the same cells of its bytes.

@@ -123,7 +123,7 @@ fn write_text(line: &mut Line, name: &str, turn: &mut Turn<'_>) {
     turn.note(edited);
 }
 
-// The margin of an erasure is the column behind the last one, and so at least 1.
+// The margin of an erasure is the column after the last one, and so at least 1.
 fn blank_cells(line: &mut Line, name: &str, turn: &mut Turn<'_>) {
     let at = turn.number();
     let margin = if name == "clear" { 0 } else { turn.number() };

@@ -5,7 +5,7 @@ use crate::turn::Turn;
 use termwiz_cell::emoji::UnicodeWidths;
 use termwiz_line::line::line::Line;
 
-/// The line that the words behind `new` make.
+/// The line that the words after `new` make.
 pub fn make(name: &str, turn: &mut Turn<'_>) -> Option<Line> {
     match name {
         "set" => set(turn),
@@ -28,7 +28,7 @@ pub fn make(name: &str, turn: &mut Turn<'_>) -> Option<Line> {
     }
 }
 
-// Sets the cells one behind another.
+// Sets the cells one after another.
 fn set(turn: &mut Turn<'_>) -> Option<Line> {
     let mut line = turn.kept(Line::with_width(turn.alloc, 0, 0))?;
     for word in turn.rest().split(' ') {

@@ -66,7 +66,7 @@ fn push_word(holds: bool, word: &str, list: &mut Turn<'_>) {
     }
 }
 
-/// Answers the changes that write the line where a pen is set, each with `|` behind it, or by the
+/// Answers the changes that write the line where a pen is set, each with `|` after it, or by the
 /// words of `entries`, which are those of recorded answers, or, of `lengths`, how many bytes each
 /// text has.
 pub fn push_changes(form: &str, line: &Line, pen: &CellAttributes, turn: &mut Turn<'_>) {

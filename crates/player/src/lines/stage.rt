@@ -39,7 +39,7 @@ impl Play for Stage {
 }
 
 impl Stage {
-    /// Leaves lines as the commands do, or compresses each behind each command on it.
+    /// Leaves lines as the commands do, or compresses each after each command on it.
     pub fn new(alloc: Global, compresses: bool) -> Stage {
         Stage {
             lines: Vec::new(alloc),

@@ -1,5 +1,5 @@
 //! Diffs and draws with recorded answers. `case WIDTH HEIGHT WIDTH HEIGHT` makes two surfaces, `a`
-//! and `b`; `a LINE` and `b LINE` make the changes of a script's line. Behind `> ` stand
+//! and `b`; `a LINE` and `b LINE` make the changes of a script's line. After `> ` stand
 //! `diff_screens` and two names, `diff_region X Y WIDTH HEIGHT OTHER_X OTHER_Y`, whose answers are
 //! changes as the program prints them, and `draw X Y`, of which the program shows the first one.
 use crate::error::PlayError;

@@ -155,7 +155,7 @@ fn headed(turn: &mut Turn<'_>, text: &str) -> Option<()> {
 }
 
 // The rows of this width of a line once the letters that a run begins with were set on it, as many
-// as fit in so many columns, and what follows them.
+// as fit in a number of columns, and what follows them.
 fn letters(turn: &mut Turn<'_>, text: &str) -> Option<()> {
     let (column, columns) = turn.pair();
     let (run, width) = (turn.word(), turn.number());
@@ -308,7 +308,7 @@ fn shared(turn: &mut Turn<'_>, size: &str) -> Option<()> {
     Some(())
 }
 
-// What a client shows of two sources, by a stream that is cut behind so many bytes.
+// What a client shows of two sources, by a stream that is cut after a number of bytes.
 fn both(turn: &mut Turn<'_>, size: &str) -> Option<()> {
     let (width, height) = turn.size_of(size);
     let cut = turn.number();

@@ -25,7 +25,7 @@ pub fn carried(turn: &mut Turn<'_>) {
 
 impl Turn<'_> {
     // The screens that changes make, or where `columns` stands before them those with each column
-    // of the last row at which the cursor may be, behind the last one too.
+    // of the last row at which the cursor may be, after the last one too.
     fn carried_by<W: Widths>(&mut self, widths: W, sizes: &str) -> usize {
         let has_columns = self.takes("columns ");
         let words = self.rest();

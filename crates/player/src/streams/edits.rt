@@ -63,7 +63,8 @@ fn quiet(turn: &mut Turn<'_>, surface: &mut Shown) {
     }
 }
 
-// Prints what a program wrote, and keeps so many of the rows that it scrolled off, the newest.
+// Prints what a program wrote, and keeps the newest of the rows that it scrolled off, up to a
+// number of them.
 fn keep(turn: &mut Turn<'_>, surface: &mut Shown) {
     let output = turn.word();
     let output = turn.unescaped(output, ' ');

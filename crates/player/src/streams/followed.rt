@@ -25,7 +25,7 @@ pub struct Followed {
 
 impl Followed {
     /// A source that made the changes of the repaint, and then those of the delta. It has to give
-    /// that delta to whoever has the repaint.
+    /// that delta to a client that has the repaint.
     pub fn new(turn: &mut Turn<'_>, repaint: Vec<u8>, delta: &[u8]) -> Option<Followed> {
         let (widths, limits) = (UnicodeWidths, Limits::default());
         let client = turn.kept(Client::new(turn.alloc, widths, limits))?;

@@ -101,7 +101,7 @@ impl Watcher {
     }
 
     // Feeds the client the rest of the response, or with `half` what comes before its middle, or
-    // lets it keep that, or lets it take so many answers at most of what it keeps.
+    // lets it keep that, or lets it take answers of what it keeps, up to a number of them.
     fn give(&mut self, turn: &mut Turn<'_>, how: &str, part: &str) -> Result<usize, ClientError> {
         let end = match part {
             "half" => self.response.len() / 2,

@@ -70,7 +70,7 @@ pub fn regions(turn: &mut Turn<'_>, own: &Surface<Measure>, other: &Surface<Meas
     }
 }
 
-/// A line for each place from which a text is printed, behind the last column too: the column and
+/// A line for each place from which a text is printed, after the last column too: the column and
 /// the row, the rows then, for each of their cells whether it is in the surface's pen, and the
 /// cursor.
 pub fn prints(turn: &mut Turn<'_>, surface: &Surface<Measure>) {
@@ -89,8 +89,8 @@ pub fn prints(turn: &mut Turn<'_>, surface: &Surface<Measure>) {
     }
 }
 
-// What a surface shows on which a text is printed behind a change: the rows, for each cell `+`
-// where it has the pen's attributes and else `-`, and the cursor.
+// What a surface shows on which a text is printed after a change: the rows, for each cell `+` where
+// it has the pen's attributes and else `-`, and the cursor.
 fn push_print(turn: &mut Turn<'_>, surface: &Surface<Measure>, change: Change, text: &str) {
     let printed = turn.kept(Change::text_from(turn.alloc, text));
     let (Some(mut made), Some(printed)) = (turn.kept(surface.clone()), printed) else {

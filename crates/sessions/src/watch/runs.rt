@@ -27,8 +27,8 @@ pub struct View {
 pub struct Watched {
     /// What is shown after each answer that isn't stale, or after the last of them.
     pub views: Vec<View>,
-    /// The number of each answer that is stale, from 1, and the byte of it at which that begins
-    /// which doesn't fit.
+    /// The number of each stale answer, from 1, and the byte of it at which what doesn't fit
+    /// begins.
     pub stale: Vec<(usize, usize)>,
     /// The number of the answer, from 1, that isn't taken, and why.
     pub fault: Option<(usize, ClientError)>,
@@ -91,7 +91,7 @@ impl Watched {
     }
 }
 
-// Keeps what a client shows behind the other views, or in their place.
+// Keeps what a client shows after the other views, or in their place.
 fn keep_view(
     views: &mut Vec<View>,
     client: &Client<UnicodeWidths>,

@@ -37,7 +37,7 @@ impl From<ClientError> for StreamError {
 }
 
 /// Lets a client take the next answer of a stream, as soon as that has come, or returns `None`
-/// where the stream ends behind an answer.
+/// where the stream ends after an answer.
 pub fn next_answer<R: Read>(
     client: &mut Client<UnicodeWidths>,
     input: &mut R,

@@ -14,7 +14,7 @@ use Rattle.termwiz_screen.specs.Screen.{row_at}
 use Rattle.termwiz_screen.specs.Walked.{EndsBlank}
 use Rattle.termwiz_screen.proofs.RowChanges.Walked.{needed_shown, needed_nothing, one_more}
 
--- behind a column where the other ends in blanks, blanks are needed
+-- after a column where the other ends in blanks, blanks are needed
 blanks_behind : (own : List CellValue) (x : ℕ) (b : List CellValue) (q w k m t : ℕ) → EndsBlank w b k → k ≤ q + m → q + (m + t) ≤ w → row_need own x b q (m + t) ≡ row_need own x b q m ++ row_need own (x + m) [] 0 t
 blanks_behind own x b q w k m zero z a l =
     let same : m + 0 ≡ m = omega arith in
@@ -29,7 +29,7 @@ blanks_behind own x b q w k m (suc t) z a l =
     ∙ append_assoc (row_need own x b q m) (row_need own (x + m) [] 0 t) (cond (shows own (x + m + t) blank) [] (at_column (x + m + t) blank ∷ []))
     ∙ ap (λ ps. row_need own x b q m ++ ps) (sym (needed_nothing own (x + m) t))
 
--- behind its stored cells, and behind the half of the last, a row shows blanks
+-- after its stored cells, and after the half of the last, a row shows blanks
 shows_past : (own : List CellValue) (k : ℕ) → length own + 1 ≤ k → shows own k blank ≡ true
 shows_past own zero l = absurd (omega arith)
 shows_past own (suc k) l = ap₂ (λ c d. not (is_wide c) && cell_eq d blank) (get_or_past own k blank (omega arith)) (get_or_past own (suc k) blank (omega arith))
@@ -45,7 +45,7 @@ blanks_past own p t (suc j) (inr l) =
     ∙ ap₂ (λ ps s. ps ++ cond s [] (at_column (p + (t + j)) blank ∷ [])) (blanks_past own p t j (inr l)) (shows_past own (p + (t + j)) (omega arith))
     ∙ append-nil (row_need own p [] 0 t)
 
--- the other's visible cells up to a column, and blanks behind them
+-- the other's visible cells up to a column, and blanks after them
 pub needed_whole : (own : List CellValue) (x : ℕ) (b : List CellValue) (q n w row next m t : ℕ) (d e g : PrintedOut) → (next < q + n → EndsBlank w b next) → q + n ≤ w → m ≡ min n (next - q) →
     t ≡ min (x + n) (length own + 1) - (x + m) → e ≡ fold print_out d (map (in_row row) (row_need own x b q (min n (next - q)))) → g ≡ fold print_out e (map (in_row row) (row_need own (x + m) [] 0 t)) →
     g ≡ fold print_out d (map (in_row row) (row_need own x b q n))

@@ -175,7 +175,7 @@ module _ (f : List ℕ → ℕ) where
     abbrev u : Screen
     u = replay f s front
 
-    -- and so do the cursor and the pen
+    -- the entries of the cursor and the pen leave that too
     abbrev before : Kept
     before = replay_kept f (replay f u place) (replay_kept f u (replay_kept f s k front) place) pen
 

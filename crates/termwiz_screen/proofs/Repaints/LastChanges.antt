@@ -79,7 +79,7 @@ pub clears_is : (a : Attributes) (es : List ChangeValue) (o : Option Change) →
 clears_is a es None h = sym (h (is_clear_of a) (λ text. refl))
 clears_is a es (Some e) h = sym (h (is_clear_of a))
 
--- behind other entries
+-- after other entries
 last_behind : (test : ChangeValue → Bool) (first : List ChangeValue) (e : ChangeValue) (es : List ChangeValue) → last_is test (first ++ e ∷ es) ≡ last_is test (e ∷ es)
 last_behind test [] e es = refl
 last_behind test (f ∷ []) e es = refl
@@ -108,6 +108,6 @@ full_apart title color lines =
     let first = started_entries ++ (change.Title title ∷ change.CursorColor color ∷ lines_upto lines (length lines)) in
     record { no_text = last_behind is_text first (cursor_at 0 0) []; no_clear = λ a. last_behind (is_clear_of a) first (cursor_at 0 0) [] }
 
--- lists put behind one another
+-- lists appended one after another
 pub all_pushed : (a b d e f : List ChangeValue) → (((a ++ b) ++ d) ++ e) ++ f ≡ a ++ (b ++ (d ++ (e ++ f)))
 all_pushed a b d e f = simp append_assoc

@@ -1,4 +1,4 @@
--- Plain cells that go right behind the last one, in its pen.
+-- Plain cells that go directly after the last one, in its pen.
 use Rattle.std.proofs.Common.{◌≡◌, ℕ, ◌+◌, cond, ◌&&◌, List, [], ◌∷◌, ◌++◌, append-nil, eq-eqb, refl, sym, ap, ap₂, ◌∙◌}
 use Rattle.std.specs.Prelude.{Some, unwrap_or}
 use Rattle.termwiz_cell.specs.Attributes.{Attributes, attributes_eq-Decides}

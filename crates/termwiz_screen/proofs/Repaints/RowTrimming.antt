@@ -31,7 +31,7 @@ last_is_plain a [] h = absurd (false≢true h)
 last_is_plain a (p ∷ []) h = (and_parts (is_space_of p.cell.attrs p) (has_only_background p.cell.attrs) h).1
 last_is_plain a (p ∷ (q ∷ ps)) h = last_is_plain p.cell.attrs (q ∷ ps) h
 
--- the cells that are left are those before a column, and behind it the row is blank
+-- the cells that are left are those before a column, and from it on the row is blank
 pub record IsTrimmed (r : List CellValue) (a : Attributes) (n : ℕ) : Type 0 where
   pub kept : ℕ
   pub within : kept ≤ n
@@ -54,7 +54,7 @@ module _ (f : List ℕ → ℕ) (one : f space ≡ 1) where
     | inr n ↦ n
   ]
 
-  -- a hidden column stands behind a wide cell, which is no space
+  -- a hidden column stands after a wide cell, which is no space
   behind_wide : (w n : ℕ) (r : List CellValue) (a : Attributes) → IsPrintableRow f w r → n < w → is_hidden r n ≡ true → trimmed a (visible_upto r n) ≡ visible_upto r n
   behind_wide w zero r a z l h = absurd (false≢true h)
   behind_wide w (suc m) r a z l h =
@@ -93,7 +93,8 @@ module _ (f : List ℕ → ℕ) (one : f space ≡ 1) where
         ];
       }
 
--- where the last cell is a plain space, the row behind the cells that are left is blank in its colour
+-- where the last cell is a plain space, the row after the cells that are left is blank in its
+-- colour
 pub trimmed_tail : (w : ℕ) (r : List CellValue) (p : Attributes) → ends_plain (visible_upto r w) ≡ true → (t : IsTrimmed r (pen_behind p (visible_upto r w)) w) → TailIs w r t.kept (blank_of (pen_behind p (visible_upto r w)))
 trimmed_tail w r p h t = record { inside = inside; visible = (t.same t.kept (omega arith) inside).1; same = λ j m n. (t.same j m n).0 }
   where

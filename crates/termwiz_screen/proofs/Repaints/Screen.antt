@@ -81,7 +81,8 @@ module _ (f : List ℕ → ℕ) where
   replay_title s [] = refl
   replay_title s (b ∷ bs) = refl
 
-  -- entries that leave the screen's rows and a pen give the screen, with its cursor and pen behind them, where those before them leave a cleared screen and the last ones its visibility
+  -- entries that leave the screen's rows and a pen give the screen, with its cursor and pen after
+  -- them, where those before them leave a cleared screen and the last ones its visibility
   pub repaint_of_gives : (t s : Screen) (first : List ChangeValue) (d : Penned) (last : List ChangeValue) → t.x ≤ t.width → t.y < t.height → replay f (emptied s) first ≡ emptied s →
       HasRows t.width t.height t.rows d.pen (replay f (emptied s) d.entries) → ((v : Screen) → v.visibility ≡ cursor.Hidden → replay f v last ≡ record v { visibility = t.visibility }) → replay f s (repaint_of first d t last) ≡ t
   repaint_of_gives t s first d last lx ly e rows shows =

@@ -15,7 +15,7 @@ use Rattle.termwiz_cell.specs.Sequence.{cell_place, grapheme_place, printed_colu
 use Rattle.termwiz_screen.specs.SequenceLaws.{TextsMoveAlike, MovesLeadThere}
 use Rattle.termwiz_screen.specs.declared.print.Piece.TheVariants.{CarriageReturn, LineFeed, CarriageReturnLineFeed, Cell}
 
--- the width stays, and so do equal columns
+-- a screen of this width, whose cursor is in the column of this place
 pub record IsAlike (w : ℕ) (s : Screen) (at : ℕ × ℤ) : Type 0 where
   pub width : s.width ≡ w
   pub column : s.x ≡ at.0

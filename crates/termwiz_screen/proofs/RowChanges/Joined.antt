@@ -25,9 +25,9 @@ pub row_before : (b : Bool) (n : ℕ) → n ≤ cond b (n - 1) n + 1
 row_before true n = omega arith
 row_before false n = omega arith
 
--- a row that is written behind those above it, with the move to it
+-- a row that is written after those above it, with the move to it
 module _ (w : ℕ) (rows : List (List CellValue)) (v u t : Writing) where
-  -- behind the move, or before the first row, no text grows
+  -- after the move, or before the first row, no text grows
   pub no_text : (i : ℕ) → IsBeforeRow i v → u.printed ≡ record v.printed { entries = v.printed.entries ++ cond (eqb i 0) [] (next_line ∷ []) } → last_is is_text u.printed.entries ≡ false
   no_text zero z e = ap (λ (d : Penned). last_is is_text d.entries) e ∙ ap (last_is is_text) (append-nil v.printed.entries) ∙ z.apart refl
   no_text (suc i) z e =
@@ -67,7 +67,7 @@ cleared_below a d = record { entries = front_of d.entries ++ change.ClearToEndOf
 abbrev pub clearable : Attributes → Bool
 clearable a = has_only_background a && not (attributes_eq a default_attributes)
 
--- behind the first entries
+-- after the first entries
 pub cleared_behind : (a : Attributes) (first : List ChangeValue) (d : Penned) → ends_with a d.entries ≡ true → cleared_below a (behind first d) ≡ behind first (cleared_below a d)
 cleared_behind a first d h =
     let cleared = change.ClearToEndOfScreen a.background ∷ [] in

@@ -26,7 +26,7 @@ map-map : {X Y Z : Type 0} (g : Y → Z) (k : X → Y) (xs : List X) → map g (
 map-map g k [] = refl
 map-map g k (x ∷ xs) = ap (λ t. g (k x) ∷ t) (map-map g k xs)
 
--- default rows come behind the rows that were kept
+-- default rows come after the rows that were kept
 module _ (w h count : ℕ) (xs ys new : List LineValue) (c : count ≡ h - length ys) (is : new ≡ ys ++ replicate count (numberless (replicate w blank))) where
   pub added-cells : cells_of ys ≡ map (resized w) (take h (cells_of xs)) → cells_of new ≡ resized_stored w h (cells_of xs)
   added-cells e =
@@ -50,7 +50,7 @@ module _ (w h : ℕ) (xs : List LineValue) where
   pub flags-in_width : row_flags (map (in_width w) (take h xs)) ≡ take h (row_flags xs)
   flags-in_width = map-map (λ (l : LineValue). l.flags) (in_width w) (take h xs) ∙ sym (take-map (λ (l : LineValue). l.flags) h xs)
 
-  -- with default rows behind them all are vectors
+  -- with default rows after them all are vectors
   pub vectors-in_width : (count : ℕ) → AreVectors (map (in_width w) (take h xs) ++ replicate count (numberless (replicate w blank)))
   vectors-in_width count = record {
     each = All-append (λ (l : LineValue). l.is_vector ≡ true) (map (in_width w) (take h xs)) (replicate count (numberless (replicate w blank)))

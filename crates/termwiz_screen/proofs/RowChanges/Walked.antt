@@ -30,7 +30,7 @@ drop_one k cs = elim (cases_lt k (length cs)) [
   | inr l ↦ ap (drop 1) (drop_all k cs l) ∙ sym (drop_all (suc k) cs (omega arith))
 ]
 
--- behind a cell that starts the next one starts
+-- after a cell that starts, the next one starts
 starts_over : (cs : List CellValue) (k : ℕ) (wide : Bool) → is_wide (stored cs k) ≡ wide → hides cs k ≡ false → hides cs (k + cond {A = ℕ} wide 2 1) ≡ false
 starts_over cs k true w h = ap (hides cs) (sym next) ∙ rw hidden (no_and (is_wide (stored cs (suc k))))
   where
@@ -61,7 +61,7 @@ hidden_over cs k j false w h a b = absurd (omega (arith, a, b))
 pub hidden_behind : (cs : List CellValue) (k j : ℕ) → hides cs k ≡ false → k < j → j < k + columns (stored cs k) → hides cs j ≡ true
 hidden_behind cs k j h a b = hidden_over cs k j (is_wide (stored cs k)) refl h a b
 
--- what is behind the first cell
+-- what follows the first cell
 behind : (cs : List CellValue) (k : ℕ) (wide : Bool) (more : List VisibleCell) → is_wide (stored cs k) ≡ wide → hides cs k ≡ false →
     more ≡ visible_from (k + 1) (cond {A = ℕ} wide 2 1 - 1) (drop (suc k) cs) → IsAt cs (k + cond wide 2 1) more
 behind cs k true more w h e = record {
@@ -108,7 +108,7 @@ at_next cs k left p more z e = elim (cases_lt k (length cs)) [
         is_none [] = false
         is_none (x ∷ xs) = true
 
--- behind all stored cells each column starts a blank
+-- after all stored cells each column starts a blank
 pub starts_past : (cs : List CellValue) (k j : ℕ) → length cs ≤ k → hides cs k ≡ false → k ≤ j → hides cs j ≡ false
 starts_past cs k j over h a = elim (cases_lt k j) [
   | inl l ↦
@@ -292,7 +292,7 @@ module _ (own : List CellValue) (x : ℕ) (cs : List CellValue) (q n row : ℕ) 
       shown = ap (λ i. shows own i (stored cs (k + m))) (sym place)
           ∙ and_from _ _ (not_from_false _ (start m (omega arith))) ((cell_eq-Decides (stored own (p + m)) (stored cs (k + m))).1 (same m (omega arith)))
 
--- behind a narrow cell that a row shows stands no half
+-- after a narrow cell that a row shows stands no half
 shown_cell : (x y : Bool) → (x && y) ≡ true → y ≡ true
 shown_cell true y e = e
 shown_cell false y e = absurd (false≢true e)

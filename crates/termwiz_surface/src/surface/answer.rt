@@ -168,8 +168,8 @@ impl<'a> Answer<'a> {
 }
 
 impl<W: Widths> Surface<W> {
-    /// The changes that are due from a number on, where the log has them and they aren't too many,
-    /// so that `answer` returns them too. Else a repaint is due.
+    /// The changes that are due from a number on, as `answer` returns them, or `None` where the log
+    /// doesn't have them or they are too many, so that a repaint is due.
     pub fn delta(&self, seq: SequenceNo) -> Option<Answer<'_>>
         ensures some { IfSome result (λ delta. (knows self.now seq ≡ true)
             × (delta ≡ delta_of self.now seq)) }

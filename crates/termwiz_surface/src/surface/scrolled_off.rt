@@ -341,7 +341,7 @@ impl<W: Widths> Surface<W> {
     /// first. Texts scroll lines off, and `ScrollRegionUp` does where its region begins at row 0.
     ///
     /// Returns what `add_unlogged` returns. `ScrollRegion`, `Numbers`: the scrollback is unchanged
-    /// too. `Memory`: behind its old lines the scrollback may have the first of those that the
+    /// too. `Memory`: after its old lines the scrollback may have the first of those that the
     /// changes scroll off.
     pub fn add_unlogged_scrolling(
         &mut self,
@@ -360,7 +360,7 @@ impl<W: Widths> Surface<W> {
         ensures spare { spare_lines scrollback.new ≤ spare_lines scrollback.old }
         ensures empty { length changes.now ≡ 0 → IsOk result }
         ensures unlogged { OnOk result (self.new.log ≡ passed self.old.log (length changes.now)) }
-        // Whoever asks by another number than the surface's gets a repaint.
+        // A viewer with another number than the surface's gets a repaint.
         ensures repaints { OnOk result ((n : ℕ) →
             n ≢ next_number self.new.log → knows self.new n ≡ false) }
         // Viewers, numbers and rows hold, even after an error.
@@ -440,7 +440,7 @@ impl<W: Widths> Surface<W> {
     /// lines off, and `ScrollRegionUp` does where its region begins at row 0.
     ///
     /// Returns what `add_changes` returns. `ScrollRegion`, `Numbers`: the scrollback is unchanged
-    /// too. `Memory`: behind its old lines the scrollback may have the first of those that the
+    /// too. `Memory`: after its old lines the scrollback may have the first of those that the
     /// changes scroll off.
     pub fn add_changes_scrolling(
         &mut self,

@@ -125,7 +125,7 @@ impl<W: Widths> Surface<W> {
             (next_number self.old.log - 1 + length changes.now) result self.new }
         ensures empty { length changes.now ≡ 0 → IsOk result }
         ensures unlogged { OnOk result (self.new.log ≡ passed self.old.log (length changes.now)) }
-        // Whoever asks by another number than the surface's gets a repaint.
+        // A viewer with another number than the surface's gets a repaint.
         ensures repaints { OnOk result ((n : ℕ) →
             n ≢ next_number self.new.log → knows self.new n ≡ false) }
         // Viewers, numbers and rows hold, even after an error.

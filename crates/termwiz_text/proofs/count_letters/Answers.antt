@@ -7,7 +7,7 @@ use Rattle.termwiz_text.proofs.LetterBytes.{IsCounted, counted_more}
 use Rattle.termwiz_text.proofs.LetterRuns.{boundary_after_letters, chars-drop_letters}
 use Rattle.termwiz_text.proofs.count_letters.Goals as goal
 
--- what stands behind the letters that are counted
+-- what stands after the letters that are counted
 behind : (text bytes : List ℕ) (k : ℕ) → bytes ≡ text → IsUtf8 text → IsCounted (chars text) k → begins_letter (drop k (chars text)) ≡ begins_letter (chars (take (length bytes - 3 * k) (drop (3 * k) bytes)))
 behind text bytes k same u counted =
     ap begins_letter (sym (ap chars (take_rest bytes (3 * k) ∙ ap (drop (3 * k)) same) ∙ chars-drop_letters text u k counted.inside counted.letters))

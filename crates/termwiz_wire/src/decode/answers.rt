@@ -27,21 +27,21 @@ use termwiz_surface::Answer;
 ///
 /// It fails with the first fault from left to right. `Truncated` says that more bytes may complete
 /// the answer; any other fault stays, whatever bytes follow. An answer of more cells, rows or bytes
-/// than the limits is `Limit`, before memory is taken for it, and one whose changes cost more than
-/// its screen bears is `Limit` at the change with which they do.
+/// than the limits allow fails with `Limit`, before memory is taken for it. One whose changes cost
+/// more than its screen bears fails with `Limit` at the change that passes that bound.
 pub fn decode_answer<W: Widths>(
     alloc: Global,
     widths: &W,
     limits: Limits,
     bytes: &[u8],
 ) -> Result<(SentAnswer, usize), WireError>
-    // What is encoded so is decoded, whatever follows it, if the limits allow it.
+    // An encoded answer is decoded again, whatever follows it, if the limits allow it.
     ensures again { (s : SentAnswer) (rest : List ℕ) →
         IsSent (measure W.width_of widths.now) s →
         IsWithin (measure W.width_of widths.now) limits s →
         bytes.now ≡ answer (measure W.width_of widths.now) s ++ rest →
         Decodes (λ x. (x.0, drop x.1 bytes.now)) result (ok s rest) }
-    // What is decoded was encoded so, in so many bytes.
+    // The bytes that are taken are the encoding of what is decoded.
     ensures found { IfOk result (λ x.
         (bytes.now ≡ answer (measure W.width_of widths.now) x.0 ++ drop x.1 bytes.now)
         × (x.1 ≤ length bytes.now)) }

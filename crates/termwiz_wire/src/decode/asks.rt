@@ -14,10 +14,10 @@ use termwiz_cell::change::SequenceNo;
 
 /// Decodes the ask at the front of the bytes, and returns how many bytes it takes.
 pub fn decode_ask(bytes: &[u8]) -> Result<(Ask, usize), WireError>
-    // What is encoded so is decoded, whatever follows it.
+    // An encoded ask is decoded again, whatever follows it.
     ensures again { (a : Ask) (rest : List ℕ) → IsAsk a → bytes.now ≡ ask a ++ rest →
         Decodes (λ x. (x.0, drop x.1 bytes.now)) result (ok a rest) }
-    // What is decoded was encoded so, in so many bytes.
+    // The bytes that are taken are the encoding of what is decoded.
     ensures found { IfOk result (λ x.
         (bytes.now ≡ ask x.0 ++ drop x.1 bytes.now) × (x.1 ≤ length bytes.now)) }
     // It names a source, or its number is 0.

@@ -37,7 +37,7 @@ use termwiz_cell::emoji::Widths;
 use termwiz_surface::LentChange;
 
 /// What was decoded of an answer whose bytes are not all there: what it has before its changes, the
-/// first of them, and of a link or a text that is cut the first of its params or of its runs of
+/// first of these, and, where a link or a text is cut, the first of its params or of its runs of
 /// pieces.
 #[derive(Debug, Drop)]
 pub struct Begun {
@@ -61,17 +61,18 @@ enum BegunChange {
 /// Why no answer was decoded.
 #[derive(Debug, Drop)]
 pub enum NoAnswer {
-    /// More bytes may complete it. What was decoded of it is given, unless that ends before its
-    /// changes.
+    /// More bytes may complete the answer. The value is what was decoded of it, or `None` where the
+    /// bytes end before its changes.
     Cut(Option<Begun>),
     /// The bytes have another fault, or memory was refused.
     Failed(WireError),
 }
 
-/// Decodes the answer at the front of the bytes as `decode_answer` does, from where an earlier call
-/// left it, which had the first of these bytes. Each change is decoded once, and what is cut again,
-/// but for a link and the pieces of a text: each param and each run is decoded once, and the runs
-/// once more where one isn't the text's. The answer borrows the texts that this call decodes.
+/// Decodes the answer at the front of the bytes as `decode_answer` does, going on from what an
+/// earlier call decoded of the first of these bytes. Each change is decoded once. One that is cut
+/// is decoded anew, but for a link and the pieces of a text: each param and each run is decoded
+/// once, and the runs once more where one isn't the text's. The answer borrows the texts that this
+/// call decodes.
 pub fn decode_more<'a, W: Widths>(
     alloc: Global,
     widths: &W,
@@ -83,7 +84,7 @@ pub fn decode_more<'a, W: Widths>(
         (λ b. LeadsOn (measure W.width_of widths.now) limits b bytes.now) }
     // It is what is decoded from the front.
     ensures exact { Resumes (measure W.width_of widths.now) limits bytes.now result }
-    // What is decoded was encoded so, in so many bytes.
+    // The bytes that are taken are the encoding of what is decoded.
     ensures found { IfOk result (λ x.
         (bytes.now ≡ answer (measure W.width_of widths.now) (lent_answer x.0) ++ drop x.1 bytes.now)
         × (x.1 ≤ length bytes.now)) }
@@ -273,7 +274,7 @@ fn with_text(
     }
 }
 
-// What is begun with a text behind its changes, up to so many bytes, if the screen bears it.
+// What is begun with a text after its changes, up to `taken` bytes, if the screen bears it.
 fn with_whole(
     alloc: Global,
     begun: Begun,
@@ -298,7 +299,7 @@ fn with_whole(
     }
 }
 
-// What is begun with one more change, up to so many bytes, where so much work is spent.
+// What is begun with one more change, up to `taken` bytes, where `spent` work is spent.
 fn with_change(begun: Begun, change: Change, spent: u128, taken: usize) -> Result<Begun, AllocError>
     ensures { IfOk result (λ x. IsWith begun (change_value change) spent taken x) }
 {
@@ -317,7 +318,7 @@ fn with_change(begun: Begun, change: Change, spent: u128, taken: usize) -> Resul
     })
 }
 
-// What is begun, up to so many bytes, with what they have of the next change.
+// What is begun, up to `taken` bytes, with what they have of the next change.
 fn up_to(begun: Begun, next: BegunChange, taken: usize) -> Begun
     ensures { result ≡ cut_after begun next taken }
 {
@@ -421,7 +422,7 @@ fn begin_change<'a, W: Widths>(
     }
 }
 
-// Decodes the changes that an answer has behind these, and returns whether all are there. Where one
+// Decodes the changes that an answer has after these, and returns whether all are there. Where one
 // is cut, the reader is before it.
 fn go_on<'a, W: Widths>(
     alloc: Global,
@@ -470,7 +471,7 @@ fn go_on<'a, W: Widths>(
     Ok(true)
 }
 
-// The changes that an earlier call decoded, and those behind them.
+// The changes that an earlier call decoded, and those after them.
 fn joined<'a>(
     alloc: Global,
     begun: Vec<Change>,
@@ -499,7 +500,7 @@ fn lent<'a>(alloc: Global, changes: Vec<Change>) -> Result<Vec<LentChange<'a>>, 
     Ok(lent)
 }
 
-// The changes that an earlier call decoded, and those behind them with texts of their own.
+// The changes that an earlier call decoded, and those after them with texts of their own.
 fn owned_behind(
     alloc: Global,
     begun: Vec<Change>,

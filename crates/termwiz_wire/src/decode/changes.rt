@@ -43,12 +43,12 @@ pub fn decode_change<W: Widths>(
     widths: &W,
     bytes: &[u8],
 ) -> Result<(Change, usize), WireError>
-    // What is encoded so is decoded, whatever follows it.
+    // An encoded change is decoded again, whatever follows it.
     ensures again { (c : ChangeValue) (rest : List ℕ) →
         IsChange (measure W.width_of widths.now) c →
         bytes.now ≡ change (measure W.width_of widths.now) c ++ rest →
         Decodes (λ x. (change_value x.0, drop x.1 bytes.now)) result (ok c rest) }
-    // What is decoded was encoded so, in so many bytes.
+    // The bytes that are taken are the encoding of what is decoded.
     ensures found { IfOk result (λ x.
         (bytes.now ≡ change (measure W.width_of widths.now) (change_value x.0)
         ++ drop x.1 bytes.now)
@@ -72,12 +72,12 @@ pub fn decode_changes<W: Widths>(
     widths: &W,
     bytes: &[u8],
 ) -> Result<(Vec<Change>, usize), WireError>
-    // What is encoded so is decoded, whatever follows it.
+    // Encoded changes are decoded again, whatever follows them.
     ensures again { (cs : List ChangeValue) (rest : List ℕ) →
         AreChanges (measure W.width_of widths.now) cs →
         bytes.now ≡ changes (measure W.width_of widths.now) cs ++ rest →
         Decodes (λ x. (map change_value x.0.items, drop x.1 bytes.now)) result (ok cs rest) }
-    // What is decoded was encoded so, in so many bytes.
+    // The bytes that are taken are the encoding of what is decoded.
     ensures found { IfOk result (λ x.
         (bytes.now ≡ changes (measure W.width_of widths.now) (map change_value x.0.items)
         ++ drop x.1 bytes.now)
@@ -139,7 +139,7 @@ fn changes_of<W: Widths>(
     each_of(alloc, widths, None, count, reader)
 }
 
-/// Decodes so many changes of an answer with this head, or by themselves.
+/// Decodes `count` changes, of an answer with this head or by themselves.
 pub(super) fn each_of<W: Widths>(
     alloc: Global,
     widths: &W,
@@ -256,7 +256,7 @@ pub(super) fn count_of(reader: &mut Reader<'_>) -> Result<usize, ReadError>
     }
 }
 
-/// Decodes the kind of a change of so many items.
+/// Decodes the kind of a change of `count` items.
 #[inline(always)]
 #[tactic(auto, unfolding(crate::specs::Decoding::change_kind_at))]
 pub(super) fn kind_of(reader: &mut Reader<'_>, count: usize) -> Result<usize, ReadError>
@@ -275,7 +275,7 @@ pub(super) fn kind_of(reader: &mut Reader<'_>, count: usize) -> Result<usize, Re
     }
 }
 
-// Whether a change of this kind has so many items: a text has one more with its pieces.
+// Whether a change of this kind has `count` items: a text has one more with its pieces.
 fn has_count(kind: usize, count: usize) -> bool
     ensures { result ≡ has_count kind count }
 {
@@ -384,7 +384,7 @@ fn pieces_of<'a, W: Widths>(
     }
 }
 
-// The list of a text's pieces, which it needs, of so many runs.
+// The list of a text's pieces, which it needs, of `needed` runs.
 #[inline(never)]
 #[tactic(auto, unfolding(crate::specs::Cuts::pieces_at))]
 fn listed_of<'a, W: Widths>(
@@ -464,7 +464,7 @@ fn region_size_of(
     }
 }
 
-// Whether a region lies on so many rows, where they are known.
+// Whether a region lies on this many rows, where their number is known.
 fn is_on(rows: Option<usize>, first: usize, size: usize) -> bool
     ensures { result ≡ is_on rows first size }
 {

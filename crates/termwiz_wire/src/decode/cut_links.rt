@@ -33,7 +33,7 @@ pub(super) struct BegunLink {
     params: BTreeMap<String, String>,
     // The key of the next one, if it is there.
     key: Option<String>,
-    // How many come behind these.
+    // How many follow these.
     left: usize,
 }
 
@@ -125,7 +125,7 @@ fn attributes_of(
     }
 }
 
-// Decodes a link behind these attributes, up to its params.
+// Decodes a link after these attributes, up to its params.
 #[tactic(auto, unfolding(crate::specs::CutLinks::link_part_at))]
 fn link_part_of(
     alloc: Global,

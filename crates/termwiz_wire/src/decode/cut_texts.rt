@@ -28,8 +28,8 @@ pub(super) struct BegunText {
     pub(super) pieces: BegunPieces,
 }
 
-/// Where parts of a change of a text begin, in bytes from the answer's front: a fault that is none
-/// of a run is one of theirs.
+/// Where parts of a change of a text begin, in bytes from the answer's front: a fault that isn't of
+/// a run is of one of these.
 #[derive(Clone, Copy, Debug)]
 pub(super) struct Places {
     pub(super) change: usize,
@@ -131,7 +131,7 @@ fn cut_pieces<'a>(
     }
 }
 
-// Decodes a change of a text, up to the first run, of so many bytes in all.
+// Decodes a change of a text, up to the first run, of an answer that has `len` bytes so far.
 #[tactic(auto, unfolding(crate::specs::CutTexts::text_begun_at))]
 fn text_begun_of<W: Widths>(
     alloc: Global,
@@ -180,7 +180,7 @@ fn with_pieces_of(reader: &mut Reader<'_>) -> Result<(), ReadError>
     }
 }
 
-// So many runs of this text, of which none is decoded.
+// `count` runs of this text, of which none is decoded.
 fn begun_pieces<W: Widths>(
     alloc: Global,
     widths: &W,
@@ -200,7 +200,7 @@ fn begun_pieces<W: Widths>(
     }
 }
 
-// So many runs of this text, by their rules alone.
+// `count` runs of this text, by their rules alone.
 fn all_others(alloc: Global, text: &str, count: usize) -> Result<OtherRuns, AllocError>
     ensures { IfOk result (λ x. other_part x ≡ all_others text.now count) }
 {

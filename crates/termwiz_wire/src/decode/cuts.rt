@@ -16,7 +16,8 @@ use cbor::{ReadError, Reader};
 use std::alloc::{AllocError, Global};
 use termwiz_cell::emoji::Widths;
 
-/// Whether the list ahead is of the runs of a text, which are so many, as far as they agree.
+/// Decodes the list of runs ahead as far as it agrees with the `count` runs of a text, and returns
+/// whether it is theirs.
 #[tactic(auto, unfolding(crate::specs::Cuts::same_at))]
 pub(super) fn are_same<W: Widths>(
     reader: &mut Reader<'_>,
@@ -128,7 +129,8 @@ pub(super) fn threes_of(reader: &mut Reader<'_>) -> Result<usize, ReadError>
     reader.list()
 }
 
-// So many runs, of these characters: whether they end with them, and one is a reason to send them.
+// Decodes `count` runs of these characters, and returns whether they end with them and one of them
+// is a reason to send the runs.
 fn all_runs(reader: &mut Reader<'_>, characters: &[char], count: usize) -> Result<bool, ReadError>
     ensures value { Gives (allowed reader.new.room reader.new.bytes.now)
         (λ x. (x, reader.new.bytes.now)) result
@@ -220,7 +222,7 @@ fn are_characters(left: &[char], count: usize, size: usize) -> bool
     }
 }
 
-// Whether each of the next pieces, of so many characters, is one.
+// Whether each of the next `count` pieces, of `size` characters, is one.
 fn are_pieces(count: usize, size: usize, characters: &[char]) -> bool
     requires { count * size ≤ length characters.now }
     ensures { result ≡ are_pieces count size characters.now }

@@ -15,7 +15,7 @@ pub(crate) struct Halted {
 }
 
 impl Halted {
-    /// The error of whoever decodes, if the item that shows it begins at this byte.
+    /// The error that decoding fails with, where the item that shows it begins at this byte.
     pub(crate) fn located(self, at: usize) -> WireError
         ensures { result ≡ error_of self.error at self.change }
     {

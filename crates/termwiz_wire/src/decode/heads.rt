@@ -99,8 +99,8 @@ pub(super) fn head_of(reader: &mut Reader<'_>, limits: Limits) -> Result<Head, R
     })
 }
 
-/// Decodes the head of an array of so many items, and the version. Another version may have another
-/// count of items, so that its fault comes first.
+/// Decodes the head of an array of `items` items, and the version. Another version may have another
+/// count of items, so the fault of the version comes first.
 #[tactic(auto, unfolding(crate::specs::Answers::opened_at, crate::specs::Answers::body_at))]
 pub(super) fn opened_of(reader: &mut Reader<'_>, items: usize) -> Result<(), ReadError>
     ensures value { Gives (allowed reader.new.room reader.new.bytes.now)

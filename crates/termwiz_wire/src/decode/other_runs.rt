@@ -13,7 +13,7 @@ pub(super) struct OtherRuns {
     pub(super) last: Run,
     // Whether one of the runs is a reason to send them.
     pub(super) needed: bool,
-    // How many runs come behind these.
+    // How many runs follow these.
     pub(super) left: usize,
     ghost within: { passed ≤ length characters.items },
 }

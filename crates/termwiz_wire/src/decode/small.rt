@@ -159,7 +159,7 @@ pub(super) fn color_of(reader: &mut Reader<'_>) -> Result<ColorAttribute, ReadEr
     }
 }
 
-/// Decodes one of so many kinds.
+/// Decodes one of `limit` kinds.
 #[inline(always)]
 #[tactic(auto, unfolding(crate::specs::Decoding::which_at))]
 pub(super) fn which_of(reader: &mut Reader<'_>, limit: usize) -> Result<usize, ReadError>

@@ -1,4 +1,4 @@
-//! Answers, and what is asked for.
+//! Answers and asks.
 ghost use Rattle.std.specs.Prelude.{◌≡◌, ◌<◌, ◌≤◌, ◌^◌, ◌++◌, IfOk, OnOk, true};
 ghost use Rattle.cbor.specs.Encoding.{Extends, array, unsigned};
 ghost use Rattle.termwiz_cell.specs.Measure.{measure};
@@ -30,7 +30,7 @@ pub fn encode_answer<W: Widths>(
         (measure W.width_of widths.now) (record { source = source; answer = value.now })) }
     // After an error too, the bytes begin with what they began with.
     ensures kept { Extends out.old.items out.new.items }
-    // It is one that is decoded again.
+    // What is appended can be decoded again.
     ensures form { OnOk result
         (IsSent (measure W.width_of widths.now) (record { source = source; answer = value.now })) }
 {
@@ -39,7 +39,8 @@ pub fn encode_answer<W: Widths>(
 }
 
 /// Appends an answer as `encode_answer` does, and returns `true`, unless it has more than `most`
-/// bytes. Then it appends nothing, and returns `false`; it encodes no more changes than pass that.
+/// bytes. Then it appends nothing, and returns `false`. No change is encoded after the one that
+/// passes `most`.
 #[tactic(auto, unfolding(crate::specs::Sent::answer))]
 pub fn encode_answer_within<W: Widths>(
     out: &mut Vec<u8>,
@@ -54,7 +55,7 @@ pub fn encode_answer_within<W: Widths>(
         most out.old.items within out.new.items) }
     // After an error too, the bytes begin with what they began with.
     ensures kept { Extends out.old.items out.new.items }
-    // It is one that is decoded again.
+    // What is appended can be decoded again.
     ensures form { IfOk result (λ within. within ≡ true →
         IsSent (measure W.width_of widths.now) (record { source = source; answer = value.now })) }
 {
@@ -91,15 +92,15 @@ fn put_head(out: &mut Vec<u8>, source: SourceNo, value: &Answer<'_>) -> Result<(
     put_unsigned(out, number)
 }
 
-/// Appends what a viewer asks by to the bytes. It fails where memory is refused, and then some of
-/// it may follow what the bytes began with.
+/// Appends an ask to the bytes. It fails where memory is refused, and then some of it may follow
+/// what the bytes began with.
 #[tactic(auto, unfolding(crate::specs::Sent::ask))]
 pub fn encode_ask(out: &mut Vec<u8>, value: Ask) -> Result<(), AllocError>
     requires { value.source ≡ 0 → value.number ≡ 0 }
     ensures written { OnOk result (out.new.items ≡ out.old.items ++ ask value) }
     // After an error too, the bytes begin with what they began with.
     ensures kept { Extends out.old.items out.new.items }
-    // It is one that is decoded again.
+    // What is appended can be decoded again.
     ensures form { OnOk result (IsAsk value) }
 {
     put_array(out, 3)?;

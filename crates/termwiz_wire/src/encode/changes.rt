@@ -32,7 +32,7 @@ pub fn encode_change<W: Widths>(
         ≡ out.old.items ++ change (measure W.width_of widths.now) (change_value value.now)) }
     // After an error too, the bytes begin with what they began with.
     ensures kept { Extends out.old.items out.new.items }
-    // It is one that is decoded again.
+    // What is appended can be decoded again.
     ensures form { OnOk result (IsChange (measure W.width_of widths.now) (change_value value.now)) }
 {
     match value {
@@ -187,7 +187,7 @@ pub fn encode_changes<W: Widths>(
         ≡ out.old.items ++ changes (measure W.width_of widths.now) (map change_value values.now)) }
     // After an error too, the bytes begin with what they began with.
     ensures kept { Extends out.old.items out.new.items }
-    // They are ones that are decoded again.
+    // What is appended can be decoded again.
     ensures form { OnOk result
         (AreChanges (measure W.width_of widths.now) (map change_value values.now)) }
 {
@@ -199,8 +199,8 @@ pub fn encode_changes<W: Widths>(
     Ok(())
 }
 
-/// Appends a list of changes as `encode_changes` does, up to one that passes so many bytes in all,
-/// and returns whether none does.
+/// Appends a list of changes as `encode_changes` does, up to the one with which the bytes are more
+/// than `end`, and returns whether there is none.
 #[tactic(auto, unfolding(crate::specs::Encoding::changes))]
 pub(super) fn encode_changes_within<W: Widths>(
     out: &mut Vec<u8>,

@@ -37,7 +37,7 @@ pub(super) fn put_printed<W: Widths>(
     }
 }
 
-// Appends the pieces of a text, of which there are so many runs.
+// Appends the pieces of a text, in `count` runs.
 #[inline(never)]
 #[tactic(auto, unfolding(crate::specs::Encoding::pieces))]
 fn put_pieces<W: Widths>(

@@ -2,7 +2,7 @@ use Rattle.std.proofs.Common.{◌≡◌, ℕ, ◌+◌, ◌<◌, ◌≤◌, get_o
 use Rattle.termwiz_cell.specs.declared.change.Change.{Change}
 use Rattle.termwiz_screen.proofs.log.swap_out_first.Given as goal
 
--- the first places have what stays, and those behind what they had
+-- the first places have what stays, and those after them what they had
 abbrev pub invariant-loop-i : goal.invariant-loop-i
 invariant-loop-i l =
     let old = l.fn.changes.items in

@@ -16,7 +16,7 @@ invariant-loop-cell l = record {
 abbrev pub decreases-loop-cell : goal.decreases-loop-cell
 decreases-loop-cell l = length l.cells
 
--- so many plain cells of the run are written too
+-- `plain` plain cells of the run are written too
 abbrev pub invariant-loop-byte : goal.invariant-loop-byte
 invariant-loop-byte l = record {
   cells : Fills (l.written + l.plain) (cells_from (l.end + l.plain) l.runs (Some l.attrs) l.cells) (cells_from 0 0 None l.fn.cells) l.fn.row_cells l.row_cells;

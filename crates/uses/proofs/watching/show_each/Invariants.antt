@@ -6,7 +6,7 @@ use Rattle.uses.specs.Watching.{TakesAFew}
 use Rattle.uses.proofs.Taken.{HasShown}
 use Rattle.uses.proofs.watching.show_each.Given as goal
 
--- what was taken is shown, one answer behind another, and no more was stale than there were bytes
+-- what was taken is shown, one answer after another, and no more was stale than there were bytes
 abbrev pub invariant-loop-taken : goal.invariant-loop-taken
 invariant-loop-taken g l = record {
   few : l.stale + length l.client.kept ≤ length l.initial.client.kept;

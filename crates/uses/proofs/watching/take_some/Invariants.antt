@@ -6,7 +6,7 @@ use Rattle.uses.specs.Watching.{TakesInTurn}
 use Rattle.uses.proofs.Taken.{HasTakenSome}
 use Rattle.uses.proofs.watching.take_some.Given as goal
 
--- so many answers are taken
+-- `count` answers are taken
 abbrev pub invariant-loop-count : goal.invariant-loop-count
 invariant-loop-count g l = record {
   follows : (histories : ℕ → ℕ → FullScreen) (sent : List Given) (future : List ℕ) → Follows (measure g.W.Widths.width_of) histories sent l.fn.client future → HasTakenSome (measure g.W.Widths.width_of) histories sent future l.fn.client l.count l.client;

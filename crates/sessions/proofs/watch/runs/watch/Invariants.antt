@@ -3,7 +3,7 @@ use Rattle.std.specs.Prelude.{IfSome, None}
 use Rattle.sessions.proofs.Watched.{IsKept}
 use Rattle.sessions.proofs.watch.runs.watch.Given as goal
 
--- so many answers are taken, whose views are kept, and the other bytes are still to come
+-- `count` answers are taken, whose views are kept, and the other bytes are still to come
 abbrev pub invariant-loop-count : goal.invariant-loop-count
 invariant-loop-count g l = record {
   limits : l.client.limits ≡ l.fn.limits;

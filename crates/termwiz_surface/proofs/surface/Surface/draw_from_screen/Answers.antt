@@ -8,7 +8,8 @@ use Rattle.termwiz_surface.specs.Surface.{SurfaceValue, IsSound, screen_of}
 use Rattle.termwiz_surface.proofs.Copying.{Adds-restoring, drawn_screen, drawn_no_scroll}
 use Rattle.termwiz_surface.proofs.surface.Surface.draw_from_screen.Goals as goal
 
--- no step is named behind the call that adds the list, so that a body which goes on there is refused by a clause
+-- no step is named after the call that adds the list, so that a body which goes on there is refused
+-- by a clause
 pub returns-clause-drawn : goal.returns-clause-drawn
 returns-clause-drawn g c =
     let f = measure g.W.Widths.width_of c.args.self.now.widths in

@@ -17,7 +17,7 @@ use Rattle.termwiz_wire.proofs.decode.begun.go_on.Goals as goal
 lens_of_both : (begun : List Change) (changes : List LentChange) → length (map change_value begun ++ map lent_value changes) ≡ length begun + length changes
 lens_of_both begun changes = omega (arith, length-append (map change_value begun) (map lent_value changes), length-map begun change_value, length-map changes lent_value)
 
--- one more behind them
+-- one more after them
 pushed : (begun : List Change) (changes after : List LentChange) (c : LentChange) → after ≡ changes ++ c ∷ [] → map change_value begun ++ map lent_value after ≡ (map change_value begun ++ map lent_value changes) ++ lent_value c ∷ []
 pushed begun changes after c is =
     ap (λ (cs : List LentChange). map change_value begun ++ map lent_value cs) is ∙ ap (λ (cs : List ChangeValue). map change_value begun ++ cs) (map-append lent_value changes (c ∷ [])) ∙ sym (append_assoc (map change_value begun) (map lent_value changes) (lent_value c ∷ []))

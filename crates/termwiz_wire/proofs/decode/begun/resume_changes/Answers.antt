@@ -32,7 +32,7 @@ start_is g c = slice_from c.rest-hand.result.now c.args.begun.taken ∙ ap (drop
 fits : (g : Over) (c : After-go_on g) → IsBytes (take c.args.limits.bytes c.args.bytes.now)
 fits g c = subst (λ (b : List ℕ). IsBytes b) (hand_is g c) c.rest-hand.ensures.bytes
 
--- no change is behind them yet
+-- no change follows them yet
 none_more : (begun changes : List Change) (more : List LentChange) → begun ≡ changes → more ≡ [] → map change_value begun ++ map lent_value more ≡ map change_value changes
 none_more begun changes more is none = ap (λ (cs : List LentChange). map change_value begun ++ map lent_value cs) none ∙ append-nil (map change_value begun) ∙ ap (map change_value) is
 
@@ -50,7 +50,7 @@ whole g c =
 same : (g : Over) (c : After-lent_from g) → lent_answer c.lent_from.result ≡ sent_of c.args.begun.head (map change_value c.deref.result.now ++ map lent_value c.go_on.new.changes.items)
 same g c = c.lent_from.ensures.answer ∙ ap (sent_of c.args.begun.head) (c.in_ok-changes-in-Ok-true.ensures ∙ lent_is c.deref.result.now c.args.begun.changes.items c.go_on.new.changes.items c.deref.ensures.value)
 
--- so many bytes are taken for it
+-- the bytes that are returned as taken are its own
 taken : (g : Over) (c : After-lent_from g) → Took (reading (measure g.W.Widths.width_of c.args.widths.now) c.args.limits c.args.bytes.now) c.args.limits.bytes (answer (measure g.W.Widths.width_of c.args.widths.now) (lent_answer c.lent_from.result)) c.args.bytes.now c.saturating_sub-taken.result (lent_answer c.lent_from.result)
 taken g c =
     let before = (goal.at.returns-in-Ok-true-clause-exact g c).After-go_on in

@@ -18,7 +18,7 @@ use Rattle.termwiz_wire.proofs.decode.begun.with_link.Goals as goal
 abbrev some : Begun → Option Begun
 some begun = Some begun
 
--- what is read from the bytes behind those that were taken
+-- what is read from the bytes after those that were taken
 reads_here : (r room : ℕ) (hand all : List ℕ) (taken : ℕ) (part : LinkPart) (result : Result Unit ReadError) (more : LinkPart) (left : ℕ) (rest : List ℕ) → r ≡ room → hand ≡ all → ReadsOn r part (take (length hand - taken) (drop taken hand)) result more left rest → ReadsOn room part (drop taken all) result more left rest
 reads_here r room hand all taken part result more left rest r_is same reads =
     subst (λ (t : List ℕ). ReadsOn room part t result more left rest) (slice_from hand taken ∙ ap (drop taken) same)

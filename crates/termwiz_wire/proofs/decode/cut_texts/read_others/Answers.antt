@@ -5,7 +5,7 @@ use Rattle.termwiz_wire.proofs.CutTexts.{others_fail, others_go, others_unneeded
 use Rattle.termwiz_wire.proofs.Resuming.{slice_from}
 use Rattle.termwiz_wire.proofs.decode.cut_texts.read_others.Goals as goal
 
--- the characters behind those that were passed
+-- the characters after those that were passed
 left_is : (items all : List ℕ) (passed : ℕ) → items ≡ all → take (length items - passed) (drop passed items) ≡ drop passed all
 left_is items all passed is = slice_from items passed ∙ ap (drop passed) is
 

@@ -20,7 +20,8 @@ returns-in_err-copied-clause-follows g c =
 pub returns-in_err-add_changes-clause-follows : goal.returns-in_err-add_changes-clause-follows
 returns-in_err-add_changes-clause-follows g c =
     let f = measure g.W.Widths.width_of in
-    -- whoever followed what was shown follows it after the refused list, so its width value is as it was
+    -- a viewer that followed what was shown follows it after the refused list, so its width value
+    -- is as it was
     let other : ViewerValue _ = record { surface = c.self.inside.shown; last = 0 } in
     let stay = c.in_err-add_changes.ensures.preserves.viewers other (Follows-none f other c.self.inside.shown refl refl) in
     Follows-none f _ c.args.surface.now (sym stay.one_measure ∙ ap (λ (u : ViewerValue _). f u.surface.widths) c.self.view_is ∙ c.requires.follows.one_measure) refl

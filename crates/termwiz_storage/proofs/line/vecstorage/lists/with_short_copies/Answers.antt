@@ -4,7 +4,7 @@ use Rattle.std.proofs.lemmas.List.Elements.{All-drop}
 use Rattle.termwiz_storage.proofs.Owned.{Unowned}
 use Rattle.termwiz_storage.proofs.line.vecstorage.lists.with_short_copies.Goals as goal
 
--- four elements go from the front of a list behind another
+-- four elements go from the front of a list to the end of another
 four_behind : {A : Type 0} (s xs : List A) (a b c d : A) → 4 ≤ length xs → a ≡ get_or xs 0 a → b ≡ get_or xs 1 b → c ≡ get_or xs 2 c → d ≡ get_or xs 3 d → ((((s ++ a ∷ []) ++ b ∷ []) ++ c ∷ []) ++ d ∷ []) ++ drop 4 xs ≡ s ++ xs
 four_behind s [] a b c d l p q r t = absurd (omega arith)
 four_behind s (w ∷ []) a b c d l p q r t = absurd (omega arith)

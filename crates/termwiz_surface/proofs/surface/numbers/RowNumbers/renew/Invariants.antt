@@ -3,7 +3,7 @@ use Rattle.std.specs.Prelude.{vec_capacity, vec_len}
 use Rattle.termwiz_surface.specs.Surface.{numbers_over}
 use Rattle.termwiz_surface.proofs.surface.numbers.RowNumbers.renew.Given as goal
 
--- so many rows have their old numbers, or none, and there is room for the others
+-- the rows so far have their old numbers, or 0, and there is room for the others
 abbrev pub invariant-loop-row : goal.invariant-loop-row
 invariant-loop-row l = record {
   numbers : (j : ℕ) → j < l._row → get_or l.self.own.items j 0 ≡ get_or (numbers_over l.fn.self.all l.fn.self.own.items) j 0;

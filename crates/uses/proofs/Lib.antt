@@ -17,3 +17,4 @@ mod Following
 mod Streams
 mod Prompting
 mod TwoSources
+mod Trimmed

@@ -1,9 +1,10 @@
 -- Viewers that accept answers while the surface goes on.
-use Rattle.std.proofs.Common.{◌≡◌, ℕ, List, inl, inr, sym, ap, ◌∙◌}
+use Rattle.std.proofs.Common.{◌≡◌, ℕ, List, inl, inr, sym, subst, ap, ◌∙◌}
 use Rattle.std.specs.Prelude.{Result, Ok, Err, OnOk, OnErr}
 use Rattle.termwiz_surface.specs.{Follows, HasCaughtUp, NamedAreLed, NumberNamesPicture, SurfaceValue, ViewerValue, full_of, full_screens, screen_of, screens}
 use Rattle.termwiz_surface.specs.Picture.{Pictures}
-use Rattle.termwiz_share.specs.{ClientValue, SourceValue}
+use Rattle.termwiz_share.specs.{ClientValue, IsResponse, SourceValue}
+use Rattle.termwiz_wire.specs.declared.sent.Ask.{Ask}
 use Rattle.termwiz_share.specs.declared.error.ClientError.{ClientError}
 use Rattle.uses.specs.Late.{IsServed}
 use Rattle.uses.specs.Serving.{ServesOnce}
@@ -42,3 +43,12 @@ pub served_later : {W : Type 0} (f : W → List ℕ → ℕ) (s t : SourceValue 
 served_later f s t old (Ok u) new same shows = shows ∙ sym same
 served_later f s t old (Err e) new same (inl none) = inl none
 served_later f s t old (Err e) new same (inr fails) = inr (fails.0, fails.1 ∙ sym same, fails.2)
+
+-- a client that was served shows what the source shows
+pub once_shows : {W : Type 0} (f : W → List ℕ → ℕ) (s : SourceValue W) (old : ClientValue W) (r : Result (Unit {0}) ClientError) (new : ClientValue W) → ServesOnce f s old r new → OnOk r (full_of new.surface ≡ full_of s.surface)
+once_shows f s old (Ok u) new shows = shows
+once_shows f s old (Err e) new fails = tt
+
+-- the response to what the client asks
+pub answers : {W : Type 0} (f : W → List ℕ → ℕ) (s : SourceValue W) (asks ask : Ask) (bytes piece : List ℕ) → ask ≡ asks → piece ≡ bytes → IsResponse f s ask bytes → IsResponse f s asks piece
+answers f s asks ask bytes piece asked same response = subst (λ (b : List ℕ). IsResponse f s asks b) (sym same) (subst (λ (a : Ask). IsResponse f s a bytes) asked response)

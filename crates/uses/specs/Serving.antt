@@ -61,6 +61,14 @@ module _ {W : Type 0} (measure_of : W → List ℕ → ℕ) where
       ⊎ ((then : SourceValue W) × (full_of then.surface ≡ full_of s.surface) ×
       FailsToTake then old e new)
 
+  -- what a client shows that is given a source's response to its ask: it is served by the source,
+  -- and can be served anew
+  pub record TakesResponse (s : SourceValue W) (old : ClientValue W)
+      (result : Result (Unit {0}) ClientError) (new : ClientValue W) : Type 0 where
+    pub once : ServesOnce s old result new
+    pub serves : Serves measure_of s new
+    pub ready : IsReady new
+
   -- each client is served, or fails to be; the first error is what all come to
   pub record ServesAll (old : RoomValue W) (result : Result (Unit {0}) ClientError)
       (new : RoomValue W) : Type 0 where

@@ -1,9 +1,11 @@
 //! A screen that is shared with three clients: each asks, is answered, and shows what it is sent.
-ghost use Rattle.std.specs.Prelude.{◌≡◌, ◌+◌, ◌<◌, ◌∷◌, [], IfErr, IfOk, OnErr, OnOk, map, true};
+ghost use Rattle.std.specs.Prelude.{◌≡◌, ◌⊎◌, ◌+◌, ◌<◌, ◌≤◌, ◌∷◌, [], IfErr, IfOk, OnErr, OnOk};
+ghost use Rattle.std.specs.Prelude.{map, take, true, vec_len};
 ghost use Rattle.uses.specs.{Adds, IsReady, IsResponse, IsSurfaceSize, KeepsClients};
 ghost use Rattle.uses.specs.{MayRefuse, Serves, ServesAll, ServesOnce, Shares, ShowsAll, Stands};
 ghost use Rattle.uses.specs.{blank_surface, change_value, full_after, full_of, measure};
-ghost use Rattle.uses.specs.{PreservesServing, next_number, trimmed};
+ghost use Rattle.uses.specs.{PreservesServing, SourceValue, TakesResponse, ask_of};
+ghost use Rattle.uses.specs.{next_number, trimmed};
 
 use std::alloc::{AllocError, Global};
 use std::marker::Model;
@@ -225,11 +227,65 @@ pub fn serve<W: Widths>(
     ensures others { KeepsClients (measure W.width_of) source.old source.new }
 {
     let bytes = response(alloc, source, client.ask())?;
-    if let Err(error) = client.feed(&bytes) {
+    show(client, &bytes)
+}
+
+/// Serves a client as `serve` does, by way of a buffer that the caller keeps. Where a response is
+/// longer, the buffer grows, and the response isn't made anew.
+pub fn serve_by<W: Widths>(
+    source: &mut Source<W>,
+    client: &mut Client<W>,
+    buffer: &mut Vec<u8>,
+) -> Result<(), ClientError>
+    requires serves { Serves (measure W.width_of) source.old client.old }
+    requires ready { IsReady client.old }
+    ensures shows { OnOk result (full_of client.new.surface ≡ full_of source.new.surface) }
+    // Which error comes when.
+    ensures once { ServesOnce (measure W.width_of) source.new client.old result client.new }
+    ensures serves { Serves (measure W.width_of) source.new client.new }
+    ensures ready { IsReady client.new }
+    // The source shows what it did, and serves its other clients.
+    ensures same { full_of source.new.surface ≡ full_of source.old.surface }
+    ensures others { KeepsClients (measure W.width_of) source.old source.new }
+{
+    let len = write_response(source, client.ask(), buffer)?;
+    show(client, &buffer[..len])
+}
+
+// Lets a client show a source's response to its ask, and makes it ready again where that fails.
+fn show<W: Widths>(client: &mut Client<W>, response: &[u8]) -> Result<(), ClientError>
+    ensures { (s : SourceValue W) → Serves (measure W.width_of) s client.old →
+        IsReady client.old →
+        IsResponse (measure W.width_of) s (ask_of client.old) response.now →
+        TakesResponse (measure W.width_of) s client.old result client.new }
+{
+    if let Err(error) = client.feed(response) {
         client.reset();
         return Err(error);
     }
     Ok(())
+}
+
+// Writes a source's answer to an ask to the front of a buffer, which grows where the answer is
+// longer, and returns its length in bytes. The source forgets what no answer needs.
+fn write_response<W: Widths>(
+    source: &mut Source<W>,
+    ask: Ask,
+    buffer: &mut Vec<u8>,
+) -> Result<usize, AllocError>
+    ensures response { IfOk result (λ len.
+        IsResponse (measure W.width_of) source.new ask (take len buffer.new.items)) }
+    ensures fits { IfOk result (λ len. len ≤ vec_len buffer.new) }
+    ensures trims { (source.new ≡ source.old)
+        ⊎ (source.new ≡ record source.old { surface = trimmed source.old.surface }) }
+    ensures preserves { PreservesServing (measure W.width_of) source.old source.new }
+{
+    let len = source.respond_to(ask, buffer)?;
+    if len > buffer.len() {
+        buffer.resize(len, 0)?;
+        source.respond_to(ask, buffer)?;
+    }
+    Ok(len)
 }
 
 /// The bytes of a source's answer to an ask. After an error the source is unchanged.

@@ -45,7 +45,7 @@ impl Line {
     /// A row of so many default blanks.
     pub fn blank(columns: usize, attribute: Option<LineAttribute>) -> Line {
         let mut line = Line::empty(columns, attribute);
-        line.fill(columns);
+        line.push_blanks(columns, 0, false);
         line
     }
 
@@ -100,7 +100,7 @@ impl Line {
             }
             line.add_cell(&cell, &mut run, columns, screen)?;
         }
-        line.fill(columns);
+        line.fill(columns, screen)?;
         Ok(line)
     }
 
@@ -119,19 +119,17 @@ impl Line {
             (text.as_bytes(), columns, self.ends_in_ascii())
         {
             let pen = run.pen(self, text == " ");
-            self.push_one(*character, pen);
+            self.push_one(*character, pen, false);
             return Ok(());
         }
         let shown = shown(text, columns, screen.widths())?;
         let is_blank = shown.text.bytes().all(|byte| byte == b' ');
         let pen = run.pen(self, is_blank);
+        let is_apart = self.is_joined_by(&shown.text, screen)?;
         if is_blank {
-            (0..columns).for_each(|_| self.push_blank(pen));
+            self.push_blanks(columns, pen, is_apart);
             return Ok(());
         }
-        let before = self.cells.last();
-        let before = before.map_or("", |cell| &self.text[cell.begin..cell.end]);
-        let is_apart = joins(before, &shown.text, screen.widths())?;
         self.is_plain &= columns == 1 && shown.columns == 1;
         let begin = self.text.len();
         self.text.push_str(&shown.text);
@@ -170,12 +168,22 @@ impl Line {
         self.text.as_bytes().last().map_or(true, u8::is_ascii)
     }
 
-    fn push_blank(&mut self, pen: usize) {
-        self.push_one(b' ', pen);
+    /// Whether a text would be part of a grapheme with the last cell's text.
+    fn is_joined_by(&self, text: &str, screen: &Screen) -> Result<bool, Error> {
+        let before = self.cells.last();
+        let before = before.map_or("", |cell| &self.text[cell.begin..cell.end]);
+        joins(before, text, screen.widths())
     }
 
-    /// Adds a printable character of ASCII, behind a text that it can't join.
-    fn push_one(&mut self, character: u8, pen: usize) {
+    /// Adds blanks of a column each, the first of which may have to stand apart.
+    fn push_blanks(&mut self, columns: usize, pen: usize, is_apart: bool) {
+        for column in 0..columns {
+            self.push_one(b' ', pen, is_apart && column == 0);
+        }
+    }
+
+    /// Adds a printable character of ASCII.
+    fn push_one(&mut self, character: u8, pen: usize, is_apart: bool) {
         let begin = self.text.len();
         self.text.push(character.into());
         self.cells.push(Cell {
@@ -184,15 +192,18 @@ impl Line {
             columns: 1,
             pen,
             by_characters: 1,
-            is_apart: false,
+            is_apart,
         });
     }
 
-    /// Adds default blanks up to so many columns.
-    fn fill(&mut self, columns: usize) {
-        while self.len() < columns {
-            self.push_blank(0);
+    /// Adds default blanks up to this many columns.
+    fn fill(&mut self, columns: usize, screen: &Screen) -> Result<(), Error> {
+        let missing = columns.saturating_sub(self.len());
+        if missing > 0 {
+            let is_apart = !self.ends_in_ascii() && self.is_joined_by(" ", screen)?;
+            self.push_blanks(missing, 0, is_apart);
         }
+        Ok(())
     }
 
     /// How many columns it has.

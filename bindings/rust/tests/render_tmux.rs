@@ -13,6 +13,7 @@ use tikeburo::{
 
 const WIDTH: usize = 40;
 const HEIGHT: usize = 12;
+const SCREENS: usize = 1000;
 
 /// Texts that tmux measures as Unicode does.
 const TEXTS: [&str; 12] = [
@@ -260,7 +261,7 @@ fn tmux_shows_the_screen() {
     let mut surface = Surface::new(WIDTH, HEIGHT).unwrap();
     let mut renderer = Renderer::new(Options::new(WIDTH, HEIGHT));
     let mut state = 7;
-    for step in 0..60 {
+    for step in 0..SCREENS {
         surface.add(&changes(&mut state)).unwrap();
         renderer.show(&mut pipe, &surface).unwrap();
         let title = format!("step {step}");

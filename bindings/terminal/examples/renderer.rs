@@ -4,17 +4,11 @@
 //!
 //! `python3 examples/terminal/recordings.py editor 40 | cargo run --example renderer -- 80 24`
 
-#[path = "terminal/parser.rs"]
-mod parser;
-#[path = "terminal/terminal.rs"]
-#[allow(dead_code)] // it may keep what scrolls off
-mod terminal;
-
 use std::env;
 use std::error::Error;
 use std::io::{self, Read};
-use terminal::Terminal;
 use tikeburo::render::{Options, Renderer};
+use tikeburo_terminal::Terminal;
 
 fn main() -> Result<(), Box<dyn Error>> {
     let mut size = env::args().skip(1).map(|word| word.parse());
@@ -27,7 +21,7 @@ fn main() -> Result<(), Box<dyn Error>> {
     let mut out = io::stdout().lock();
     for part in bytes.chunks(512) {
         terminal.feed(part)?;
-        renderer.show(&mut out, &terminal.surface)?;
+        renderer.show(&mut out, terminal.surface())?;
     }
     Ok(renderer.end(&mut out)?)
 }

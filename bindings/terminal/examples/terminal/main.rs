@@ -1,16 +1,14 @@
-//! A small terminal: the bytes that a program writes become changes of a surface, which are made in
-//! place. It prints the screen that its input leaves, and says how long that took. With `log`
-//! behind the size the surface keeps its changes, as for viewers. With `keep` and a number there,
-//! the terminal keeps the last rows that scroll off, at most so many, and says how many it has.
-//! `python3 examples/terminal/frames.py 100 | cargo run --release --example terminal -- 80 24`
-
-mod parser;
-mod terminal;
+//! A small terminal: it prints the screen that its input leaves, and says how long that took. With
+//! `log` behind the size the surface keeps its changes, as for viewers. With `keep` and a number
+//! there, the terminal keeps the last rows that scroll off, at most so many, and says how many it
+//! has.
+//! `python3 examples/terminal/frames.py 100 | cargo run --release --features terminal --example
+//! terminal -- 80 24`
 
 use std::error::Error;
 use std::io::{self, Read};
 use std::{env, time::Instant};
-use terminal::{Scrollback, Terminal};
+use tikeburo_terminal::Terminal;
 
 fn main() -> Result<(), Box<dyn Error>> {
     let words: Vec<_> = env::args().skip(1).collect();
@@ -21,19 +19,19 @@ fn main() -> Result<(), Box<dyn Error>> {
     io::stdin().read_to_end(&mut bytes)?;
     let mut terminal = Terminal::new(width, height)?;
     let place = |word| words.iter().skip(2).position(|it| it == word);
-    terminal.surface.keep_changes(place("log").is_some());
+    terminal.surface_mut().keep_changes(place("log").is_some());
     if let Some(at) = place("keep") {
         let limit = words.get(at + 3).ok_or("no number behind `keep`")?;
-        terminal.scrollback = Some(Scrollback::new(limit.parse()?)?);
+        terminal.keep_scrollback(limit.parse()?)?;
     }
     let begin = Instant::now();
     for chunk in bytes.chunks(4096) {
         terminal.feed(chunk)?;
     }
     eprintln!("{} bytes in {:?}", bytes.len(), begin.elapsed());
-    if let Some(scrollback) = &terminal.scrollback {
-        eprintln!("{} lines are kept", scrollback.lines.len());
+    if let Some(lines) = terminal.scrollback() {
+        eprintln!("{} lines are kept", lines.len());
     }
-    print!("{}", terminal.surface);
+    print!("{}", terminal.surface());
     Ok(())
 }

@@ -1,15 +1,9 @@
-//! What a renderer writes is, to the terminal in `examples/terminal`, the session that it shows:
+//! What a renderer writes is, to a terminal, the session that it shows:
 //! the same cells, cursor and title after each part.
 
-#[path = "../examples/terminal/parser.rs"]
-mod parser;
-#[path = "../examples/terminal/terminal.rs"]
-#[allow(dead_code)] // it may keep what scrolls off
-mod terminal;
-
-use terminal::Terminal;
 use tikeburo::render::{Options, Renderer};
 use tikeburo::{Attributes, Cell, Changes, CursorVisibility, Row, Screen, Underline};
+use tikeburo_terminal::Terminal;
 
 const SESSION: &str = concat!(
     "\x1b]2;notes か\x07first\r\n\x1b[1;34mblue \x1b[0;7;42mon green\x1b[m\r\n",
@@ -63,24 +57,24 @@ fn seen_cell(cell: &Cell) -> (String, Attributes) {
 fn what_is_written_shows_the_session() {
     for size in [1, 7, 40, SESSION.len()] {
         let [mut played, mut shown, mut followed] = [0; 3].map(|_| Terminal::new(20, 6).unwrap());
-        played.surface.keep_changes(true);
+        played.surface_mut().keep_changes(true);
         let [mut renderer, mut follower] = [0; 2].map(|_| Renderer::new(Options::new(20, 6)));
         let (mut since, mut changes) = (0, Changes::new());
         for (number, part) in SESSION.as_bytes().chunks(size).enumerate() {
             played.feed(part).unwrap();
             let mut out = Vec::new();
-            renderer.show(&mut out, &played.surface).unwrap();
+            renderer.show(&mut out, played.surface()).unwrap();
             shown.feed(&out).unwrap();
             let what = format!("part {number} of {size} bytes");
-            assert_eq!(seen(&shown.surface), seen(&played.surface), "{what}");
+            assert_eq!(seen(shown.surface()), seen(played.surface()), "{what}");
 
             out.clear();
-            since = played.surface.read_changes(since, &mut changes).unwrap();
+            since = played.surface().read_changes(since, &mut changes).unwrap();
             follower.changes(&mut out, &changes).unwrap();
             followed.feed(&out).unwrap();
             assert_eq!(
-                seen(&followed.surface),
-                seen(&played.surface),
+                seen(followed.surface()),
+                seen(played.surface()),
                 "{what}, by changes"
             );
         }

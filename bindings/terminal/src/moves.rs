@@ -1,0 +1,185 @@
+//! Moves of the cursor.
+
+use crate::emulator::Emulator;
+use tikeburo::ColorAttribute;
+
+const LINE_FEED: &str = "\n";
+const LINE_END: &str = "\r\n";
+
+impl Emulator {
+    /// Goes to a column and a row, at most the last ones.
+    pub(crate) fn go(&mut self, x: usize, y: usize) {
+        self.cursor
+            .go(x.min(self.width - 1), y.min(self.height - 1));
+    }
+
+    /// Goes to a column and a row as a program counts them, from 0: from the margins where the
+    /// origin is there, and then at most to the others.
+    pub(crate) fn go_from_origin(&mut self, x: usize, y: usize) {
+        if !self.cursor.has_origin_at_margins {
+            return self.go(x, y);
+        }
+        let x = self.columns.start + x;
+        let y = self.rows.start + y;
+        self.cursor
+            .go(x.min(self.columns.end - 1), y.min(self.rows.end - 1));
+    }
+
+    /// Goes to a column as a program counts them.
+    pub(crate) fn go_to_column(&mut self, x: usize) {
+        let y = self.cursor.y;
+        self.go_from_origin(x, 0);
+        self.cursor.y = y;
+    }
+
+    /// Goes to a row as a program counts them.
+    pub(crate) fn go_to_row(&mut self, y: usize) {
+        let x = self.cursor.x;
+        self.go_from_origin(0, y);
+        self.cursor.x = x;
+    }
+
+    /// Goes up, at most to the margin.
+    pub(crate) fn move_up(&mut self, count: usize) {
+        let y = self.cursor.y;
+        let top = if y < self.rows.start {
+            0
+        } else {
+            self.rows.start
+        };
+        self.go(self.cursor.x, y.saturating_sub(count).max(top));
+    }
+
+    /// Goes down, at most to the margin.
+    pub(crate) fn move_down(&mut self, count: usize) {
+        let y = self.cursor.y;
+        let end = if y < self.rows.end {
+            self.rows.end
+        } else {
+            self.height
+        };
+        self.go(self.cursor.x, (y + count).min(end - 1));
+    }
+
+    /// Goes to the right, at most to the margin.
+    pub(crate) fn move_forward(&mut self, count: usize) {
+        let last = self.right_edge() - 1;
+        self.go((self.cursor.x + count).min(last), self.cursor.y);
+    }
+
+    /// Goes to the left, at most to the margin.
+    pub(crate) fn move_back(&mut self, count: usize) {
+        let x = self.cursor.x;
+        self.go(x.saturating_sub(count).max(self.left_edge()), self.cursor.y);
+    }
+
+    /// Goes to the first column, or to the margin.
+    pub(crate) fn return_carriage(&mut self) {
+        self.go(self.left_edge(), self.cursor.y);
+    }
+
+    /// The first column that texts and moves of the cursor's row come to.
+    fn left_edge(&self) -> usize {
+        let is_before = self.cursor.x < self.columns.start;
+        if is_before {
+            0
+        } else {
+            self.columns.start
+        }
+    }
+
+    /// The column behind the last one that they come to.
+    pub(crate) fn right_edge(&self) -> usize {
+        let is_behind = self.cursor.x >= self.columns.end;
+        if is_behind {
+            self.width
+        } else {
+            self.columns.end
+        }
+    }
+
+    /// Whether the cursor is between the margins at the left and the right.
+    pub(crate) fn is_between_margins(&self) -> bool {
+        self.columns.contains(&self.cursor.x)
+    }
+
+    /// Goes to the next row. At the margin the rows scroll.
+    ///
+    /// Where the surface does the same by a line feed in a text, the text goes on.
+    pub(crate) fn feed_line(&mut self) {
+        let (x, y) = (self.cursor.x, self.cursor.y);
+        let was_pending = std::mem::take(&mut self.cursor.is_wrap_pending);
+        let below = (x, (y + 1).min(self.height - 1));
+        if !was_pending && self.batch.place == (x, y) && self.feeds_alike(1) {
+            self.batch.end_line(LINE_FEED, below);
+        } else if x == 0 && self.batch.place.1 == y && self.feeds_alike(1) {
+            self.batch.end_line(LINE_END, below);
+        } else if y + 1 == self.rows.end {
+            if self.is_between_margins() {
+                self.scroll(self.rows.clone(), 1, true);
+            }
+            return;
+        }
+        self.cursor.y = below.1;
+    }
+
+    /// Goes to the row above. At the margin the rows scroll.
+    pub(crate) fn feed_line_back(&mut self) {
+        self.cursor.is_wrap_pending = false;
+        if self.cursor.y != self.rows.start {
+            self.cursor.y = self.cursor.y.saturating_sub(1);
+        } else if self.is_between_margins() {
+            self.scroll(self.rows.clone(), 1, false);
+        }
+    }
+
+    /// Whether so many line feeds do the same on the surface, which knows no margins, and scrolls
+    /// in rows without a background.
+    pub(crate) fn feeds_alike(&self, count: usize) -> bool {
+        let y = self.cursor.y;
+        let end = if y < self.rows.end {
+            self.rows.end
+        } else {
+            self.height
+        };
+        let has_no_margins = self.rows.len() == self.height && self.columns.len() == self.width;
+        let scrolls_alike = has_no_margins && self.background() == ColorAttribute::Default;
+        y + count < end || scrolls_alike
+    }
+
+    /// Sets the rows between the margins, counted from 1 to the last one, or 0 for all.
+    pub(crate) fn set_row_margins(&mut self, first: usize, last: usize) {
+        if let Some(rows) = margins(first, last, self.height) {
+            self.rows = rows;
+            self.go_from_origin(0, 0);
+        }
+    }
+
+    /// Sets the columns between the margins.
+    pub(crate) fn set_column_margins(&mut self, first: usize, last: usize) {
+        if let Some(columns) = margins(first, last, self.width) {
+            self.columns = columns;
+            self.go_from_origin(0, 0);
+        }
+    }
+
+    /// Goes to a number of tab stops, forward or back.
+    pub(crate) fn move_to_tab(&mut self, count: usize, is_forward: bool) {
+        let mut x = self.cursor.x;
+        for _ in 0..count.min(self.width) {
+            x = if is_forward {
+                self.tabs.next(x)
+            } else {
+                self.tabs.previous(x)
+            };
+        }
+        self.go(x.min(self.right_edge() - 1), self.cursor.y);
+    }
+}
+
+/// Two places at least, of so many.
+fn margins(first: usize, last: usize, count: usize) -> Option<std::ops::Range<usize>> {
+    let start = first.max(1) - 1;
+    let end = if last == 0 { count } else { last.min(count) };
+    (start + 1 < end).then_some(start..end)
+}

@@ -31,18 +31,18 @@ use std::fmt;
 /// ```
 #[derive(Clone, Default)]
 pub struct Changes {
-    list: Vec<tk_change>,
+    pub(crate) list: Vec<tk_change>,
     /// The texts of all changes, behind one another.
-    texts: String,
+    pub(crate) texts: String,
     /// Whether the last change is a text that may still grow.
-    is_open: bool,
+    pub(crate) is_open: bool,
     /// The pen after them, where they say the whole of it.
-    pen: Option<Pen>,
+    pub(crate) pen: Option<Pen>,
 }
 
 /// A pen, as its fields for the library and its link.
 #[derive(Clone)]
-struct Pen {
+pub(crate) struct Pen {
     fields: tk_attributes,
     hyperlink: Option<Hyperlink>,
 }

@@ -29,6 +29,33 @@ impl Changes {
             value(change, text)
         })
     }
+
+    /// Drops the first changes, at most all, and keeps the others in order: for whoever finds that
+    /// later changes leave nothing of what the first ones do.
+    ///
+    /// ```
+    /// use tikeburo::{Changes, ColorAttribute};
+    ///
+    /// let mut changes = Changes::new();
+    /// changes.title("old").text("gone");
+    /// let count = changes.len();
+    /// changes.clear_screen(ColorAttribute::Default).text("shown");
+    /// changes.remove_first(count);
+    /// let mut wanted = Changes::new();
+    /// wanted.clear_screen(ColorAttribute::Default).text("shown");
+    /// assert_eq!(changes, wanted);
+    /// ```
+    pub fn remove_first(&mut self, count: usize) {
+        if count == 0 {
+            return;
+        }
+        let first = self.list.drain(..count.min(self.list.len()));
+        let lengths = first.filter(|change| has_text(change.kind));
+        let bytes: usize = lengths.map(|change| change.first).sum();
+        self.texts.drain(..bytes);
+        self.is_open &= !self.list.is_empty();
+        self.pen = None;
+    }
 }
 
 impl<'a> Extend<&'a Change> for Changes {

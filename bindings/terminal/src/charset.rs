@@ -48,11 +48,16 @@ impl Charsets {
         self.in_use = number;
     }
 
-    /// The text that is shown for this one, where it is another one.
-    pub(crate) fn translate(&self, text: &str) -> Option<String> {
+    /// Whether each text is shown as it is.
+    #[inline]
+    pub(crate) fn is_ascii(&self) -> bool {
+        self.sets[self.in_use] == Charset::Ascii
+    }
+
+    /// The text that is shown for this one.
+    pub(crate) fn translate(&self, text: &str) -> String {
         let set = self.sets[self.in_use];
-        let translated = || text.chars().map(|it| set.translate(it)).collect();
-        (set != Charset::Ascii).then(translated)
+        text.chars().map(|it| set.translate(it)).collect()
     }
 }
 
@@ -63,13 +68,13 @@ mod tests {
     #[test]
     fn drawings_are_shown_for_small_letters() {
         let mut charsets = Charsets::default();
-        assert_eq!(charsets.translate("lqk"), None);
+        assert!(charsets.is_ascii());
         charsets.designate(1, b'0');
-        assert_eq!(charsets.translate("lqk"), None);
+        assert!(charsets.is_ascii());
         charsets.shift(1);
-        assert_eq!(charsets.translate("lqk_~A").unwrap(), "┌─┐ ·A");
+        assert_eq!(charsets.translate("lqk_~A"), "┌─┐ ·A");
         charsets.shift(0);
         charsets.designate(0, b'A');
-        assert_eq!(charsets.translate("#x").unwrap(), "£x");
+        assert_eq!(charsets.translate("#x"), "£x");
     }
 }

@@ -23,7 +23,8 @@ impl Part {
 
 impl Emulator {
     /// Clears these columns of a row, to the background of the pen.
-    fn erase(&mut self, y: usize, columns: Range<usize>) {
+    pub(crate) fn erase(&mut self, y: usize, columns: Range<usize>) {
+        self.settle();
         let background = self.background();
         self.batch.erase(y, columns, self.width, background);
     }
@@ -41,18 +42,32 @@ impl Emulator {
 
     /// Clears a part of the screen.
     pub(crate) fn erase_in_screen(&mut self, part: Part) {
-        let (x, y) = match part {
-            Part::FromCursor => (self.cursor.x, self.cursor.y),
-            Part::All => (0, 0),
+        let (x, y) = (self.cursor.x, self.cursor.y);
+        match part {
             Part::ToCursor => {
-                (0..self.cursor.y).for_each(|y| self.erase(y, 0..self.width));
-                return self.erase_in_row(part);
+                (0..y).for_each(|y| self.erase(y, 0..self.width));
+                self.erase_in_row(part);
             }
-        };
+            Part::FromCursor if (x, y) != (0, 0) => self.erase_below(x, y),
+            Part::FromCursor | Part::All => self.erase_screen(),
+        }
+    }
+
+    /// Clears the screen. What was printed before isn't shown, unless it has scrolled off to where
+    /// rows are kept.
+    fn erase_screen(&mut self) {
+        if !self.keeps_rows() {
+            self.shift = None;
+            self.batch.drop_all();
+        }
+        self.erase_below(0, 0);
+    }
+
+    /// Clears from a place to the end of the screen.
+    fn erase_below(&mut self, x: usize, y: usize) {
+        self.settle();
         let background = self.background();
-        self.batch.move_to(x, y);
-        self.batch.has_pen = false;
-        self.batch.changes.clear_to_end_of_screen(background);
+        self.batch.erase_below(x, y, background);
     }
 
     /// Clears so many columns from the cursor on.
@@ -61,36 +76,13 @@ impl Emulator {
         self.erase(self.cursor.y, x..self.width.min(x + count));
     }
 
-    /// Inserts so many blanks at the cursor, and moves the cells behind them to the right.
-    pub(crate) fn insert_columns(&mut self, count: usize) {
-        let (x, right) = (self.cursor.x, self.right_edge());
-        let end = right.min(x + count);
-        if self.is_between_margins() {
-            self.shift(x..right - (end - x), end, x..end);
-        }
-    }
-
-    /// Deletes so many cells at the cursor, and moves those behind them there.
-    pub(crate) fn delete_columns(&mut self, count: usize) {
-        let (x, right) = (self.cursor.x, self.right_edge());
-        let end = right.min(x + count);
-        if self.is_between_margins() {
-            self.shift(end..right, x, right - (end - x)..right);
-        }
-    }
-
-    /// Moves cells of the cursor's row to another column, and clears columns.
-    fn shift(&mut self, from: Range<usize>, to: usize, cleared: Range<usize>) {
-        let y = self.cursor.y;
-        self.cursor.is_wrap_pending = false;
-        if !from.is_empty() {
-            self.draw_region((from.start, y), (from.len(), 1), (to, y));
-        }
-        self.erase(y, cleared);
-    }
-
     /// Copies the cells from a column and row on, of this width and height, to others.
-    fn draw_region(&mut self, from: (usize, usize), size: (usize, usize), to: (usize, usize)) {
+    pub(crate) fn draw_region(
+        &mut self,
+        from: (usize, usize),
+        size: (usize, usize),
+        to: (usize, usize),
+    ) {
         self.make();
         let drawn = self
             .surface
@@ -109,6 +101,7 @@ impl Emulator {
     /// Scrolls rows, between the margins at the left and the right. Those that scroll in have the
     /// background of the pen.
     pub(crate) fn scroll(&mut self, rows: Range<usize>, count: usize, is_up: bool) {
+        self.settle();
         let count = count.min(rows.len());
         let new = if is_up {
             rows.end - count..rows.end
@@ -136,18 +129,20 @@ impl Emulator {
         }
     }
 
-    /// Fills the screen with `E`, and goes home.
+    /// Fills the screen with `E`, and goes home. The margins are those of the whole screen then.
     pub(crate) fn fill_screen(&mut self) {
+        self.settle();
         (self.rows, self.columns) = (0..self.height, 0..self.width);
+        self.cursor.has_origin_at_margins = false;
         let row = "E".repeat(self.width);
-        self.batch.has_pen = false;
+        self.batch.change_pen();
         for y in 0..self.height {
             self.batch.move_to(0, y);
             self.batch
-                .print(&row, &Attributes::default(), (self.width, y));
+                .print(&row, &Attributes::default(), (self.width, y), true);
             self.make_if_full();
         }
-        self.batch.has_pen = false;
+        self.batch.change_pen();
         self.cursor.go(0, 0);
     }
 }

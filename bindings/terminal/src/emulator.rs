@@ -3,15 +3,18 @@
 use crate::batch::Batch;
 use crate::colors::Colors;
 use crate::cursor::Cursor;
+use crate::edit::Part;
 use crate::modes::Modes;
 use crate::screens::Screens;
+use crate::settings::Settings;
+use crate::shift::Shift;
 use crate::tabs::Tabs;
 use crate::text::Last;
 use crate::titles::Titles;
 use crate::Scrollback;
 use std::mem;
 use std::ops::Range;
-use tikeburo::{Attributes, ColorAttribute, CursorVisibility, Error, Options, Surface};
+use tikeburo::{ColorAttribute, Error, Options, Surface};
 
 /// A surface, and all that sequences change. The surface's cursor and pen are set only where the
 /// next change needs them.
@@ -20,9 +23,9 @@ pub(crate) struct Emulator {
     pub(crate) width: usize,
     pub(crate) height: usize,
     pub(crate) cursor: Cursor,
-    pub(crate) is_cursor_visible: bool,
-    /// Whether it is on the surface.
-    is_cursor_shown: bool,
+    pub(crate) settings: Settings,
+    /// Those that the surface has.
+    shown_settings: Settings,
     /// The rows, and the columns, between the margins.
     pub(crate) rows: Range<usize>,
     pub(crate) columns: Range<usize>,
@@ -38,6 +41,8 @@ pub(crate) struct Emulator {
     pub(crate) usual_colors: Colors,
     pub(crate) last: Last,
     pub(crate) batch: Batch,
+    /// What is inserted and deleted in a row behind the batch.
+    pub(crate) shift: Option<Shift>,
     pub(crate) reports: Vec<u8>,
     pub(crate) bells: usize,
     pub(crate) unknown: usize,
@@ -53,8 +58,8 @@ impl Emulator {
             width,
             height,
             cursor: Cursor::default(),
-            is_cursor_visible: true,
-            is_cursor_shown: true,
+            settings: Settings::default(),
+            shown_settings: Settings::default(),
             rows: 0..height,
             columns: 0..width,
             screens: Screens::default(),
@@ -67,6 +72,7 @@ impl Emulator {
             usual_colors: Colors::default(),
             last: Last::default(),
             batch: Batch::default(),
+            shift: None,
             reports: Vec::new(),
             bells: 0,
             unknown: 0,
@@ -84,11 +90,22 @@ impl Emulator {
         self.unknown = self.unknown.saturating_add(1);
     }
 
-    /// Makes the changes that are still to be made. Only the main screen has a scrollback.
+    pub(crate) fn ring_bell(&mut self) {
+        self.bells = self.bells.saturating_add(1);
+    }
+
+    /// Whether rows that scroll off are kept: only the main screen has a scrollback.
+    #[inline]
+    pub(crate) fn keeps_rows(&self) -> bool {
+        self.scrollback.is_some() && !self.screens.is_alternate
+    }
+
+    /// Makes the changes that are still to be made.
     pub(crate) fn make(&mut self) {
+        self.settle();
         let is_main = !self.screens.is_alternate;
         let scrollback = self.scrollback.as_mut().filter(|_| is_main);
-        let made = self.batch.make(&mut self.surface, scrollback);
+        let made = self.batch.make(&mut self.surface, self.height, scrollback);
         self.attempt(made);
     }
 
@@ -103,30 +120,33 @@ impl Emulator {
     /// call.
     pub(crate) fn finish(&mut self) -> Result<(), Error> {
         self.put_cursor();
-        if self.is_cursor_shown != self.is_cursor_visible {
-            self.is_cursor_shown = self.is_cursor_visible;
-            let visibility = CursorVisibility::from(self.is_cursor_shown);
-            self.batch.changes.cursor_visibility(visibility);
+        if self.settings != self.shown_settings {
+            let shown = std::mem::replace(&mut self.shown_settings, self.settings);
+            self.settings.append_to(self.batch.settings(), &shown);
+        }
+        if self.titles.take_change() {
+            self.batch.settings().title(self.titles.window());
         }
         self.make();
         mem::replace(&mut self.outcome, Ok(()))
     }
 
-    /// Moves the surface's cursor to the terminal's.
-    pub(crate) fn put_cursor(&mut self) {
+    /// The column of the surface's cursor where it is at the terminal's.
+    #[inline]
+    pub(crate) fn surface_column(&self) -> usize {
         let end = self.cursor.end();
-        let x = if end == self.width {
+        if end == self.width {
             end
         } else {
             self.cursor.x
-        };
-        self.batch.move_to(x, self.cursor.y);
+        }
     }
 
-    /// Sets the pen by what changes it.
-    pub(crate) fn set_pen(&mut self, set: impl FnOnce(&mut Attributes)) {
-        set(&mut self.cursor.pen);
-        self.batch.has_pen = false;
+    /// Moves the surface's cursor to the terminal's.
+    #[inline]
+    pub(crate) fn put_cursor(&mut self) {
+        self.settle();
+        self.batch.move_to(self.surface_column(), self.cursor.y);
     }
 
     /// What the surface was made with.
@@ -139,10 +159,10 @@ impl Emulator {
         self.cursor.pen.background
     }
 
-    pub(crate) fn control(&mut self, byte: u8) {
+    pub(crate) fn do_control(&mut self, byte: u8) {
         self.last.is_live = false;
         match byte {
-            0x07 => self.bells = self.bells.saturating_add(1),
+            0x07 => self.ring_bell(),
             0x08 => self.move_back(1),
             b'\t' => self.move_to_tab(1, true),
             b'\n'..=0x0c => {
@@ -160,24 +180,23 @@ impl Emulator {
 
     /// Is as at first, but for the scrollback.
     pub(crate) fn reset(&mut self) {
-        self.batch
-            .changes
-            .clear_screen(ColorAttribute::Default)
-            .title("");
-        self.batch.changes.cursor_shape(Default::default());
-        self.batch.changes.cursor_color(ColorAttribute::Default);
-        self.batch.place = (0, 0);
-        self.batch.has_pen = false;
-        // What was before scrolls off the screen that was shown.
-        self.make();
         self.cursor = Cursor::default();
-        self.is_cursor_visible = true;
+        self.start_blank();
+        // Rows that have scrolled off did so on the screen that was shown.
+        self.make();
+        self.settings = Settings::default();
         self.screens = Screens::default();
         self.modes = Modes::default();
         self.tabs = Tabs::new(self.width);
-        self.titles = Titles::default();
+        self.titles.reset();
         self.colors = self.usual_colors.clone();
+    }
+
+    /// Clears the screen, and is at home, with the margins of the whole screen.
+    pub(crate) fn start_blank(&mut self) {
         self.reset_margins();
+        self.cursor.go(0, 0);
+        self.erase_in_screen(Part::All);
     }
 
     /// Is as at first where that changes nothing that is shown.
@@ -186,8 +205,8 @@ impl Emulator {
         self.modes.reset_softly();
         self.cursor = Cursor::default();
         self.cursor.go(x, y);
-        self.batch.has_pen = false;
-        self.is_cursor_visible = true;
+        self.batch.change_pen();
+        self.settings.is_cursor_visible = true;
         self.screens.save(Cursor::default());
         self.reset_margins();
     }

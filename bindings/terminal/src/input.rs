@@ -1,6 +1,7 @@
 //! Cuts the bytes that a program writes into texts, control characters and sequences.
 
 use crate::emulator::Emulator;
+use crate::params::{self, Params, Sequence};
 use std::{mem, str};
 
 const ESCAPE: u8 = 0x1b;
@@ -28,11 +29,12 @@ enum State {
     Skipped,
 }
 
-/// The state between bytes. Texts are decoded here; sequences are read by `vte`, which has no other
-/// state where a text begins.
+/// The state between bytes. Texts and most sequences are read here, and what is cut or rare by
+/// `vte`, which is at its ground wherever this is.
 #[derive(Default)]
 pub(crate) struct Input {
     parser: vte::Parser,
+    params: Params,
     state: State,
     cut: Vec<u8>,  // the beginning of a character
     length: usize, // of a string so far
@@ -42,67 +44,106 @@ impl Input {
     /// Takes bytes, cut anywhere. What is no UTF-8 is a replacement character.
     pub(crate) fn feed(&mut self, bytes: &[u8], emulator: &mut Emulator) {
         if self.cut.is_empty() {
-            return self.take(bytes, emulator);
+            return self.take_all(bytes, emulator);
         }
         let mut joined = mem::take(&mut self.cut);
         joined.extend_from_slice(bytes);
-        self.take(&joined, emulator);
+        self.take_all(&joined, emulator);
     }
 
-    fn take(&mut self, bytes: &[u8], emulator: &mut Emulator) {
+    fn take_all(&mut self, bytes: &[u8], emulator: &mut Emulator) {
         let mut rest = bytes;
-        while let Some(first) = rest.first() {
+        loop {
+            let error = match str::from_utf8(rest) {
+                Ok(text) => return self.take(text, emulator),
+                Err(error) => error,
+            };
+            let (good, behind) = rest.split_at(error.valid_up_to());
+            self.take(str::from_utf8(good).unwrap_or_default(), emulator);
+            let length = error.error_len();
+            let (broken, others) = behind.split_at(length.unwrap_or(behind.len()));
+            self.take_broken(broken, length.is_none(), emulator);
+            rest = others;
+            if rest.is_empty() {
+                return;
+            }
+        }
+    }
+
+    fn take(&mut self, text: &str, emulator: &mut Emulator) {
+        let (mut rest, mut bytes) = (text, text.as_bytes());
+        while let Some(first) = bytes.first() {
             let length = match self.state {
-                State::Ground if *first < b' ' || *first == DELETE => {
-                    self.control(*first, emulator);
-                    1
-                }
+                State::Ground if is_control(*first) => self.control(bytes, emulator),
                 State::Ground => {
-                    let length = text_length(rest);
-                    self.text(&rest[..length], length == rest.len(), emulator);
+                    let (length, is_ascii) = measure_text(bytes);
+                    emulator.print_text(&rest[..length], is_ascii);
                     length
                 }
-                State::Skipped => self.skip(rest, emulator),
-                State::Csi if is_parameter(first) => self.parameters(rest, emulator),
+                State::Skipped => self.skip(bytes, emulator),
+                State::Osc if !is_control(*first) => self.string(bytes, emulator),
+                State::Csi if is_parameter(first) => self.parameters(bytes, emulator),
                 _ => self.sequence(*first, emulator),
             };
             rest = &rest[length..];
+            bytes = rest.as_bytes();
             emulator.make_if_full();
         }
     }
 
-    fn control(&mut self, byte: u8, emulator: &mut Emulator) {
-        match byte {
-            ESCAPE => self.advance(byte, State::Escape, emulator),
-            DELETE => {}
-            _ => emulator.control(byte),
+    /// Takes bytes that are no UTF-8, and may be the beginning of a character that is cut.
+    fn take_broken(&mut self, bytes: &[u8], is_cut: bool, emulator: &mut Emulator) {
+        if matches!(self.state, State::Escape | State::Intermediate | State::Csi) {
+            self.sequence(bytes[0], emulator); // which ends there
+        }
+        match self.state {
+            State::Skipped => {}
+            State::Ground if is_cut => self.cut.extend_from_slice(bytes),
+            State::Ground => emulator.print_text(REPLACEMENT, false),
+            _ => {
+                self.string(bytes, emulator);
+            }
         }
     }
 
-    /// Takes bytes without control characters. At the end of what has come a character may be cut.
-    fn text(&mut self, bytes: &[u8], is_end: bool, emulator: &mut Emulator) {
-        let mut rest = bytes;
-        loop {
-            let error = match str::from_utf8(rest) {
-                Ok(text) => return emulator.print_text(text),
-                Err(error) => error,
-            };
-            let (good, behind) = rest.split_at(error.valid_up_to());
-            emulator.print_text(str::from_utf8(good).unwrap_or_default());
-            match error.error_len() {
-                None if is_end => return self.cut.extend_from_slice(behind),
-                None => return emulator.print_text(REPLACEMENT),
-                Some(length) => {
-                    emulator.print_text(REPLACEMENT);
-                    rest = &behind[length..];
+    /// Takes a control character, or the sequence that it begins, and returns how many bytes they
+    /// are.
+    fn control(&mut self, bytes: &[u8], emulator: &mut Emulator) -> usize {
+        match *bytes {
+            [ESCAPE, ..] => match params::read(bytes, &mut self.params) {
+                Some((Sequence::Csi(marks, last), length)) => {
+                    emulator.do_csi(&self.params, marks, last);
+                    return length;
                 }
+                Some((Sequence::Escape(mark, last), length)) => {
+                    emulator.do_escape(mark, last);
+                    return length;
+                }
+                None => self.advance(ESCAPE, State::Escape, emulator),
+            },
+            [b'\r', b'\n', ..] => {
+                emulator.end_line();
+                return 2;
             }
+            [DELETE, ..] | [] => {}
+            [byte, ..] => emulator.do_control(byte),
         }
+        1
     }
 
     /// Takes the parameters of a CSI, and returns how many bytes they are.
     fn parameters(&mut self, bytes: &[u8], emulator: &mut Emulator) -> usize {
         let length = bytes.iter().take_while(|byte| is_parameter(byte)).count();
+        for byte in &bytes[..length] {
+            self.parser.advance(emulator, *byte);
+        }
+        length
+    }
+
+    /// Takes bytes of an OSC up to a control character, and returns how many they are.
+    fn string(&mut self, bytes: &[u8], emulator: &mut Emulator) -> usize {
+        let (length, _) = measure_text(bytes);
+        self.length += length;
         for byte in &bytes[..length] {
             self.parser.advance(emulator, *byte);
         }
@@ -119,7 +160,7 @@ impl Input {
             }
             (_, CANCEL | SUBSTITUTE) | (State::Osc, BELL) => State::Ground,
             (State::Osc, _) => {
-                self.length += 1;
+                self.length += usize::from(!is_control(byte));
                 State::Osc
             }
             (State::Escape, b'[') => State::Csi,
@@ -165,6 +206,10 @@ impl Input {
     }
 }
 
+fn is_control(byte: u8) -> bool {
+    byte < b' ' || byte == DELETE
+}
+
 /// Whether a byte is of a parameter, or parts two.
 fn is_parameter(byte: &u8) -> bool {
     matches!(*byte, b'0'..=b';')
@@ -173,28 +218,36 @@ fn is_parameter(byte: &u8) -> bool {
 /// How many bytes of a string `vte` keeps for sure.
 const LONGEST_STRING: usize = 1023;
 
-/// How many bytes stand before the first control character: eight at once, of which the high bits
-/// say whether they are below 32 or 127. What is carried over changes bytes behind such a one
-/// alone.
-fn text_length(bytes: &[u8]) -> usize {
+/// How many bytes stand before the first control character, and whether they are of ASCII: eight at
+/// once, of which the high bits say whether they are below 32 or 127. What is carried over changes
+/// bytes behind such a one alone.
+fn measure_text(bytes: &[u8]) -> (usize, bool) {
     let each = |byte: u8| u64::from_ne_bytes([byte; 8]);
-    let mut length = 0;
+    let (mut length, mut high) = (0, 0);
     for block in bytes.chunks_exact(8) {
         let block = block.try_into().map_or(0, u64::from_le_bytes);
         let (below, above) = (block.wrapping_sub(each(32)), block.wrapping_add(each(1)));
         let found = (below | above) & !block & each(0x80);
         if found != 0 {
-            return length + found.trailing_zeros() as usize / 8;
+            let before = found.trailing_zeros();
+            high |= block & ((1 << before) - 1);
+            return (length + before as usize / 8, high & each(0x80) == 0);
         }
+        high |= block;
         length += 8;
     }
     let rest = bytes[length..].iter();
-    length + rest.take_while(|byte| !byte.is_ascii_control()).count()
+    let rest = rest.take_while(|byte| !byte.is_ascii_control());
+    for byte in rest {
+        high |= u64::from(*byte);
+        length += 1;
+    }
+    (length, high & each(0x80) == 0)
 }
 
 #[cfg(test)]
 mod tests {
-    use super::text_length;
+    use super::measure_text;
 
     #[test]
     fn texts_end_at_control_characters() {
@@ -202,10 +255,12 @@ mod tests {
             for length in 0..30 {
                 let text = format!("{}{end} か behind", "か~ x".repeat(9));
                 let text = &text.as_bytes()[54 - length..];
-                assert_eq!(text_length(text), length, "{end:?}");
+                let is_ascii = text[..length].is_ascii();
+                assert_eq!(measure_text(text), (length, is_ascii), "{end:?}");
             }
         }
-        assert_eq!(text_length(&[0xff; 20]), 20);
-        assert_eq!(text_length(b""), 0);
+        assert_eq!(measure_text(&[0xff; 20]), (20, false));
+        assert_eq!(measure_text("0123456789abcdef\r か".as_bytes()), (16, true));
+        assert_eq!(measure_text(b""), (0, true));
     }
 }

@@ -81,6 +81,9 @@ pub struct Modes {
     pub synchronized_output: bool,
     /// There are margins at the left and the right (`?69`).
     pub left_right_margins: bool,
+    /// A switch between 80 and 132 columns (`?3`) clears the screen, and sets the margins to the
+    /// whole of it (`?40`). The width stays.
+    pub column_switch: bool,
 }
 
 impl Default for Modes {
@@ -101,6 +104,7 @@ impl Default for Modes {
             bracketed_paste: false,
             synchronized_output: false,
             left_right_margins: false,
+            column_switch: false,
         }
     }
 }
@@ -167,6 +171,7 @@ impl Modes {
             5 => &mut self.reverse_screen,
             7 => &mut self.auto_wrap,
             12 => &mut self.cursor_blink,
+            40 => &mut self.column_switch,
             66 => &mut self.application_keypad,
             69 => &mut self.left_right_margins,
             1004 => &mut self.focus_reports,
@@ -206,7 +211,9 @@ mod tests {
     #[test]
     fn what_is_set_is_read() {
         let mut modes = Modes::default();
-        for number in [1, 5, 12, 66, 69, 1003, 1004, 1006, 1007, 1034, 2004, 2026] {
+        for number in [
+            1, 5, 12, 40, 66, 69, 1003, 1004, 1006, 1007, 1034, 2004, 2026,
+        ] {
             assert_eq!(modes.private(number), Some(false), "{number}");
             assert!(modes.set_private(number, true));
             assert_eq!(modes.private(number), Some(true), "{number}");

@@ -103,29 +103,58 @@ impl Emulator {
         self.columns.contains(&self.cursor.x)
     }
 
-    /// Goes to the next row. At the margin the rows scroll.
+    /// Goes to the first column of the next row, as CR LF does.
+    pub(crate) fn end_line(&mut self) {
+        self.last.is_live = false;
+        self.return_carriage();
+        self.feed_line();
+    }
+
+    /// Goes to the next row. At the margin the rows scroll. A pending wrap stays.
     ///
     /// Where the surface does the same by a line feed in a text, the text goes on.
     pub(crate) fn feed_line(&mut self) {
-        let (x, y) = (self.cursor.x, self.cursor.y);
-        let was_pending = std::mem::take(&mut self.cursor.is_wrap_pending);
-        let below = (x, (y + 1).min(self.height - 1));
-        if !was_pending && self.batch.place == (x, y) && self.feeds_alike(1) {
-            self.batch.end_line(LINE_FEED, below);
-        } else if x == 0 && self.batch.place.1 == y && self.feeds_alike(1) {
-            self.batch.end_line(LINE_END, below);
+        let (x, y) = (self.surface_column(), self.cursor.y);
+        let below = (y + 1).min(self.height - 1);
+        let is_alike = self.feeds_alike(1);
+        self.settle();
+        if is_alike && below == y {
+            self.put_cursor_for_line_end(x, y);
+        }
+        if is_alike && self.batch.is_at(x, y) {
+            self.batch.end_line(LINE_FEED, (x, below));
+        } else if is_alike && x == 0 && self.batch.is_in_row(y) {
+            self.batch.end_line(LINE_END, (x, below));
         } else if y + 1 == self.rows.end {
             if self.is_between_margins() {
                 self.scroll(self.rows.clone(), 1, true);
             }
             return;
         }
-        self.cursor.y = below.1;
+        if below == y {
+            self.note_scroll(1);
+        }
+        self.cursor.y = below;
     }
 
-    /// Goes to the row above. At the margin the rows scroll.
+    /// Moves the surface's cursor to where a line end scrolls, unless it is in that row already.
+    fn put_cursor_for_line_end(&mut self, x: usize, y: usize) {
+        let is_near = x == 0 && self.batch.is_in_row(y);
+        if !is_near {
+            self.batch.move_to(x, y);
+        }
+    }
+
+    /// Notes that texts have scrolled rows off the whole screen.
+    #[inline]
+    pub(crate) fn note_scroll(&mut self, count: usize) {
+        if count > 0 && !self.keeps_rows() {
+            self.batch.scroll_off(count);
+        }
+    }
+
+    /// Goes to the row above. At the margin the rows scroll. A pending wrap stays.
     pub(crate) fn feed_line_back(&mut self) {
-        self.cursor.is_wrap_pending = false;
         if self.cursor.y != self.rows.start {
             self.cursor.y = self.cursor.y.saturating_sub(1);
         } else if self.is_between_margins() {
@@ -163,8 +192,11 @@ impl Emulator {
         }
     }
 
-    /// Goes to a number of tab stops, forward or back.
+    /// Goes to a number of tab stops, forward or back. Forward a pending wrap stays.
     pub(crate) fn move_to_tab(&mut self, count: usize, is_forward: bool) {
+        if is_forward && self.cursor.is_wrap_pending {
+            return;
+        }
         let mut x = self.cursor.x;
         for _ in 0..count.min(self.width) {
             x = if is_forward {

@@ -1,57 +1,69 @@
 //! Texts that are printed.
 
 use crate::emulator::Emulator;
-use crate::text::{is_one_grapheme, is_simple, simple_length};
+use crate::text::{is_one_grapheme, is_simple, Run};
 use tikeburo::{text_width, Attributes, Cell, Error, Widths};
 
 /// How many bytes a grapheme has at most: what joins it behind them is left out.
 const LONGEST_GRAPHEME: usize = 128;
 
 impl Emulator {
-    /// Prints a text without control characters of ASCII.
-    pub(crate) fn print_text(&mut self, text: &str) {
-        match self.cursor.charsets.translate(text) {
-            Some(translated) => self.print_graphemes(&translated),
-            None => self.print_graphemes(text),
+    /// Prints a text without control characters of ASCII, and says whether it is ASCII.
+    pub(crate) fn print_text(&mut self, text: &str, is_ascii: bool) {
+        let is_plain = self.cursor.charsets.is_ascii();
+        if is_ascii && is_plain && self.last.is_apart_from_simple() {
+            self.print_simple(text, Run::of_ascii(text.len()));
+        } else if is_plain {
+            self.print_graphemes(text);
+        } else {
+            self.print_graphemes(&self.cursor.charsets.translate(text));
         }
     }
 
     /// Prints simple characters at once, and others one at a time.
     fn print_graphemes(&mut self, text: &str) {
         let mut rest = text;
-        while let Some(first) = rest.chars().next() {
-            let length = if self.last.is_apart_from_simple() {
-                simple_length(rest)
-            } else {
-                0
-            };
-            if length > 0 {
-                self.print_simple(&rest[..length]);
-                rest = &rest[length..];
-            } else {
-                let (character, behind) = rest.split_at(first.len_utf8());
-                self.print_character(first, character);
-                rest = behind;
+        while !rest.is_empty() {
+            if self.last.is_apart_from_simple() {
+                let run = Run::new(rest, usize::MAX, self.surface.widths());
+                if run.length > 0 {
+                    self.print_simple(&rest[..run.length], run);
+                    rest = &rest[run.length..];
+                    continue;
+                }
             }
+            let mut behind = rest.chars();
+            if let Some(first) = behind.next() {
+                self.print_character(first, &rest[..first.len_utf8()]);
+            }
+            rest = behind.as_str();
         }
     }
 
-    /// Prints simple characters, one at least.
-    fn print_simple(&mut self, text: &str) {
+    /// Prints simple characters, one at least, which are this run.
+    fn print_simple(&mut self, text: &str, run: Run) {
         if !self.last.is_live {
             self.batch.cut(true);
         }
-        let columns = self.columns_of(text);
-        let end = self.cursor.end() + columns;
-        let rows = (end - 1) / self.width;
+        let end = self.cursor.end() + run.columns;
         if end <= self.right_edge() && !self.modes.insert {
-            self.put(text, columns);
+            self.put(text, run.columns, true);
             self.last.set_simple(text);
-        } else if text.is_ascii() && self.wraps_alike() && self.feeds_alike(rows) {
+        } else {
+            self.print_wrapped(text, run, end);
+        }
+    }
+
+    /// Prints simple characters that go on in the next row, or are inserted.
+    fn print_wrapped(&mut self, text: &str, run: Run, end: usize) {
+        let rows = (end - 1) / self.width;
+        if run.is_ascii && self.wraps_alike() && self.feeds_alike(rows) {
             self.put_cursor();
             let y = (self.cursor.y + rows).min(self.height - 1);
-            self.put_to(text, end - rows * self.width, y);
+            let scrolled = self.cursor.y + rows - y;
+            self.put_to(text, end - rows * self.width, y, true);
             self.last.set_simple(text);
+            self.note_scroll(scrolled);
         } else {
             self.print_by_rows(text);
         }
@@ -68,36 +80,19 @@ impl Emulator {
         let mut rest = text;
         while let Some(first) = rest.chars().next() {
             let room = self.right_edge() - self.cursor.end();
-            let (piece, columns) = self.fitting(rest, room);
-            if !piece.is_empty() {
-                self.insert(columns);
-                self.put(piece, columns);
+            let run = Run::new(rest, room, self.surface.widths());
+            if run.length > 0 {
+                let piece = &rest[..run.length];
+                self.insert(run.columns);
+                self.put(piece, run.columns, true);
                 self.last.set_simple(piece);
-                rest = &rest[piece.len()..];
+                rest = &rest[run.length..];
             } else if room == 0 && !self.modes.auto_wrap && rest.is_ascii() && rest.len() > 1 {
                 rest = &rest[rest.len() - 1..]; // which is printed last in the last column
             } else if !self.make_room(self.columns_of(&rest[..first.len_utf8()])) {
                 rest = &rest[first.len_utf8()..];
             }
         }
-    }
-
-    /// The beginning of a text of simple characters that has room in so many columns, and how many
-    /// it takes.
-    fn fitting<'a>(&self, text: &'a str, room: usize) -> (&'a str, usize) {
-        if text.is_ascii() {
-            let length = room.min(text.len());
-            return (&text[..length], length);
-        }
-        let mut columns = 0;
-        for (at, character) in text.char_indices() {
-            let more = self.columns_of(character.encode_utf8(&mut [0; 4]));
-            if columns + more > room {
-                return (&text[..at], columns);
-            }
-            columns += more;
-        }
-        (text, columns)
     }
 
     /// Goes to where so many columns have room: to the next row, or back. Returns whether there is
@@ -126,16 +121,18 @@ impl Emulator {
         }
     }
 
-    /// Prints a text of so many columns, which have room in the cursor's row.
-    fn put(&mut self, text: &str, columns: usize) {
+    /// Prints a text of so many columns, which have room in the cursor's row, and says whether its
+    /// characters are simple.
+    fn put(&mut self, text: &str, columns: usize, is_simple: bool) {
         self.put_cursor();
-        self.put_to(text, self.cursor.end() + columns, self.cursor.y);
+        self.put_to(text, self.cursor.end() + columns, self.cursor.y, is_simple);
     }
 
     /// Prints a text that ends before this column of this row.
-    fn put_to(&mut self, text: &str, end: usize, y: usize) {
+    fn put_to(&mut self, text: &str, end: usize, y: usize, is_simple: bool) {
         let is_full = end == self.right_edge();
-        self.batch.print(text, &self.cursor.pen, (end, y));
+        self.batch
+            .print(text, &self.cursor.pen, (end, y), is_simple);
         self.cursor.go(end - usize::from(is_full), y);
         self.cursor.is_wrap_pending = is_full;
     }
@@ -162,16 +159,17 @@ impl Emulator {
             return;
         }
         self.insert(columns);
+        let is_simple = text.chars().all(is_simple);
         if !self.last.is_live {
-            self.batch.cut(text.chars().all(is_simple));
+            self.batch.cut(is_simple);
         }
-        self.put(text, columns);
+        self.put(text, columns, is_simple);
         self.last.set(text);
     }
 
     /// Prints what joins the last grapheme, so that both are this one.
     fn join(&mut self, joined: String, mark: &str) {
-        let columns = self.cell_columns_of(&self.last.text);
+        let columns = self.cell_columns_of(&self.last.text());
         let start = self.cursor.end() - columns;
         let joined_columns = self.cell_columns_of(&joined);
         let has_room = start + joined_columns <= self.right_edge();
@@ -181,12 +179,13 @@ impl Emulator {
         let more = joined_columns.saturating_sub(columns);
         if more > 0 && self.modes.insert {
             self.insert_columns(more);
+            self.settle();
         }
         if joined_columns >= columns && self.batch.ends_with_text() {
-            self.put_to(mark, start + joined_columns, self.cursor.y);
+            self.put_to(mark, start + joined_columns, self.cursor.y, false);
         } else {
             self.cursor.go(start, self.cursor.y);
-            self.put(&joined, joined_columns);
+            self.put(&joined, joined_columns, false);
         }
         self.last.set(&joined);
     }
@@ -212,8 +211,8 @@ impl Emulator {
             ..pen.clone()
         };
         if self.last.is_live {
-            let columns = self.cell_columns_of(&self.last.text);
-            let (text, pen) = (self.last.text.clone(), wrapped(&self.cursor.pen));
+            let (text, pen) = (self.last.text(), wrapped(&self.cursor.pen));
+            let columns = self.cell_columns_of(&text);
             self.replace_cell(self.cursor.end() - columns, &text, columns, &pen);
         } else if let Some((column, cell)) = self.cell_before()? {
             let pen = wrapped(cell.attrs());
@@ -239,18 +238,18 @@ impl Emulator {
 
     /// Prints a grapheme of so many columns at a column of the cursor's row, which stays there.
     fn replace_cell(&mut self, column: usize, text: &str, columns: usize, pen: &Attributes) {
-        self.batch.move_to(column, self.cursor.y);
-        self.batch.has_pen = false;
-        self.batch
-            .print(text, pen, (column + columns, self.cursor.y));
-        self.batch.has_pen = false;
+        self.settle();
+        self.print_at((column, self.cursor.y), text, columns, pen);
     }
 
-    /// Prints the last grapheme so many times more, at most as often as the screen has cells.
+    /// Prints the last grapheme so many times more, at most as often as the screen has cells, where
+    /// nothing but texts has come since.
     pub(crate) fn repeat(&mut self, count: usize) {
-        let count = count.min(self.width * self.height);
-        let text = self.last.text.repeat(count);
-        self.print_graphemes(&text);
+        if self.last.is_live {
+            let count = count.min(self.width * self.height);
+            let text = self.last.text().repeat(count);
+            self.print_graphemes(&text);
+        }
     }
 
     /// The columns of a text, as the surface measures them.

@@ -63,7 +63,7 @@ impl Emulator {
     pub(crate) fn report_mode(&mut self, number: u16, mark: &str) {
         let is_on = match (mark, number) {
             ("?", 6) => Some(self.cursor.has_origin_at_margins),
-            ("?", 25) => Some(self.is_cursor_visible),
+            ("?", 25) => Some(self.settings.is_cursor_visible),
             ("?", 47 | 1047 | 1049) => Some(self.screens.is_alternate),
             ("?", _) => self.modes.private(number),
             _ => self.modes.ansi(number),
@@ -105,7 +105,7 @@ impl Emulator {
             self.set_color(number, usual);
         }
         if number == 12 {
-            self.batch.changes.cursor_color(ColorAttribute::Default);
+            self.settings.cursor_color = ColorAttribute::Default;
         }
     }
 
@@ -125,10 +125,11 @@ impl Emulator {
 
     fn set_color(&mut self, number: usize, color: RgbColor) -> Option<()> {
         let place = self.colors.named(number)?;
-        if number == 12 && *place != color {
-            self.batch.changes.cursor_color(color.into());
-        }
+        let is_other = *place != color;
         *place = color;
+        if number == 12 && is_other {
+            self.settings.cursor_color = color.into();
+        }
         Some(())
     }
 

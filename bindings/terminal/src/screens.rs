@@ -32,7 +32,7 @@ impl Emulator {
     pub(crate) fn restore_cursor(&mut self) {
         let saved = &self.screens.saved[usize::from(self.screens.is_alternate)];
         self.cursor = saved.clone();
-        self.batch.has_pen = false;
+        self.batch.change_pen();
     }
 
     /// Sets one of the modes that show the alternate screen or the main one. Returns whether this
@@ -115,8 +115,7 @@ impl Emulator {
         (self.rows, self.columns) = (0..height, 0..width);
         self.tabs.resize(width);
         self.last.is_live = false;
-        self.batch.place = self.surface.cursor_position();
-        self.batch.has_pen = false;
+        self.batch.start_from(&self.surface);
         Ok(())
     }
 }

@@ -4,44 +4,129 @@ use tikeburo::{text_width, Widths};
 /// Whether a character is a grapheme by itself between others of which this is so, and has a column
 /// at least. Those that are left out are taken one at a time, with what stands before them.
 pub(crate) fn is_simple(character: char) -> bool {
-    matches!(
-        character,
-        ' '..='~'
-            | '\u{a0}'..='\u{ac}'
-            | '\u{ae}'..='\u{2ff}'
-            | '\u{370}'..='\u{482}'
-            | '\u{48a}'..='\u{58f}'
-            | '\u{5d0}'..='\u{5ea}'
-            | '\u{620}'..='\u{64a}'
-            | '\u{1e00}'..='\u{1fff}'
-            | '\u{2010}'..='\u{2027}'
-            | '\u{2030}'..='\u{205e}'
-            | '\u{20a0}'..='\u{20c0}'
-            | '\u{2100}'..='\u{2bff}'
-            | '\u{2e80}'..='\u{3029}'
-            | '\u{3030}'..='\u{3096}'
-            | '\u{309b}'..='\u{312f}'
-            | '\u{3131}'..='\u{3163}'
-            | '\u{3165}'..='\u{a48c}'
-            | '\u{ac00}'..='\u{d7a3}'
-            | '\u{e000}'..='\u{faff}'
-            | '\u{fe30}'..='\u{fe6b}'
-            | '\u{ff01}'..='\u{ff9d}'
-            | '\u{ffe0}'..='\u{ffe6}'
-            | '\u{fffd}'
-            | '\u{1f300}'..='\u{1f3fa}'
-            | '\u{1f400}'..='\u{1faff}'
-            | '\u{20000}'..='\u{3fffd}'
-    )
+    columns_of_simple(character).is_some()
 }
 
-/// How many bytes of a text stand before the first character that isn't simple.
-pub(crate) fn simple_length(text: &str) -> usize {
-    if text.is_ascii() {
-        return text.len();
+/// How many columns a simple character has by Unicode.
+#[derive(Clone, Copy, PartialEq, Eq)]
+enum Columns {
+    One,
+    Two,
+    /// One or two, as the library says.
+    OneOrTwo,
+}
+
+impl Columns {
+    /// The columns by these widths, where the library needn't be asked.
+    #[inline]
+    fn known(self, widths: Widths) -> Option<usize> {
+        match (self, widths) {
+            (Columns::One, Widths::Unicode) | (_, Widths::OneColumn) => Some(1),
+            (Columns::Two, Widths::Unicode) => Some(2),
+            _ => None,
+        }
     }
-    let complex = text.find(|it| !is_simple(it));
-    complex.unwrap_or(text.len())
+}
+
+#[inline]
+fn columns_of_simple(character: char) -> Option<Columns> {
+    Some(match character {
+        ' '..='~'
+        | '\u{a0}'..='\u{ac}'
+        | '\u{ae}'..='\u{2ff}'
+        | '\u{370}'..='\u{482}'
+        | '\u{48a}'..='\u{58f}'
+        | '\u{5d0}'..='\u{5ea}'
+        | '\u{620}'..='\u{64a}'
+        | '\u{1e00}'..='\u{1fff}'
+        | '\u{2010}'..='\u{2027}'
+        | '\u{2030}'..='\u{205e}'
+        | '\u{20a0}'..='\u{20c0}'
+        | '\u{2100}'..='\u{22ff}'
+        | '\u{2500}'..='\u{25fc}'
+        | '\u{2800}'..='\u{28ff}'
+        | '\u{e000}'..='\u{f8ff}'
+        | '\u{ff61}'..='\u{ff9d}'
+        | '\u{fffd}' => Columns::One,
+        '\u{3041}'..='\u{3096}'
+        | '\u{309b}'..='\u{30ff}'
+        | '\u{4e00}'..='\u{9fff}'
+        | '\u{ac00}'..='\u{d7a3}'
+        | '\u{ff01}'..='\u{ff60}' => Columns::Two,
+        '\u{2300}'..='\u{24ff}'
+        | '\u{25fd}'..='\u{27ff}'
+        | '\u{2900}'..='\u{2bff}'
+        | '\u{2e80}'..='\u{3029}'
+        | '\u{3030}'..='\u{3040}'
+        | '\u{3100}'..='\u{312f}'
+        | '\u{3131}'..='\u{3163}'
+        | '\u{3165}'..='\u{4dff}'
+        | '\u{a000}'..='\u{a48c}'
+        | '\u{f900}'..='\u{faff}'
+        | '\u{fe30}'..='\u{fe6b}'
+        | '\u{ffe0}'..='\u{ffe6}'
+        | '\u{1f300}'..='\u{1f3fa}'
+        | '\u{1f400}'..='\u{1faff}'
+        | '\u{20000}'..='\u{3fffd}' => Columns::OneOrTwo,
+        _ => return None,
+    })
+}
+
+/// The beginning of a text, up to the first character that isn't simple or has no room.
+#[derive(Clone, Copy, PartialEq, Eq, Debug)]
+pub(crate) struct Run {
+    /// Its length in bytes.
+    pub(crate) length: usize,
+    pub(crate) columns: usize,
+    pub(crate) is_ascii: bool,
+}
+
+impl Run {
+    /// So many characters of ASCII.
+    #[inline]
+    pub(crate) fn of_ascii(length: usize) -> Run {
+        Run {
+            length,
+            columns: length,
+            is_ascii: true,
+        }
+    }
+
+    /// The longest run of at most so many columns at the beginning of a text.
+    pub(crate) fn new(text: &str, room: usize, widths: Widths) -> Run {
+        if text.is_ascii() {
+            return Run::of_ascii(text.len().min(room));
+        }
+        let (mut length, mut columns, mut is_ascii) = (0, 0, true);
+        let mut is_measured = true;
+        for (at, character) in text.char_indices() {
+            let Some(kind) = columns_of_simple(character) else {
+                break;
+            };
+            let behind = at + character.len_utf8();
+            let more = match kind.known(widths) {
+                Some(more) => more,
+                None if room == usize::MAX => {
+                    is_measured = false;
+                    0
+                }
+                None => text_width(&text[at..behind], widths),
+            };
+            if columns + more > room {
+                break;
+            }
+            (length, columns) = (behind, columns + more);
+            is_ascii &= character.is_ascii();
+        }
+        if !is_measured {
+            columns = text_width(&text[..length], widths);
+        }
+        Run {
+            length,
+            columns,
+            is_ascii,
+        }
+    }
 }
 
 /// Whether a text that isn't empty is one grapheme.
@@ -52,36 +137,44 @@ pub(crate) fn is_one_grapheme(text: &str) -> bool {
 /// The grapheme that was printed last.
 #[derive(Default)]
 pub(crate) struct Last {
-    pub(crate) text: String,
+    /// It, where it isn't simple.
+    text: String,
+    /// The character that it is, where it is simple.
+    simple: Option<char>,
     /// Whether nothing but texts has come since.
     pub(crate) is_live: bool,
-    is_simple: bool,
 }
 
 impl Last {
     /// Is the last one of a text of simple characters.
+    #[inline]
     pub(crate) fn set_simple(&mut self, text: &str) {
-        self.text.clear();
-        self.text.extend(text.chars().next_back());
-        (self.is_live, self.is_simple) = (true, true);
+        (self.simple, self.is_live) = (text.chars().next_back(), true);
     }
 
     /// Is this one.
     pub(crate) fn set(&mut self, grapheme: &str) {
         self.text.clear();
         self.text.push_str(grapheme);
+        let only = grapheme.chars().next().filter(|it| is_simple(*it));
+        self.simple = only.filter(|it| it.len_utf8() == grapheme.len());
         self.is_live = true;
-        self.is_simple = grapheme.chars().all(is_simple);
+    }
+
+    /// Its text.
+    pub(crate) fn text(&self) -> String {
+        self.simple.map_or_else(|| self.text.clone(), String::from)
     }
 
     /// Whether a simple character can't join it.
+    #[inline]
     pub(crate) fn is_apart_from_simple(&self) -> bool {
-        !self.is_live || self.is_simple
+        !self.is_live || self.simple.is_some()
     }
 
     /// It with a text behind it, where both are one grapheme.
     pub(crate) fn joined(&self, text: &str) -> Option<String> {
-        let joined = || [&self.text, text].concat();
+        let joined = || [&self.text(), text].concat();
         let joined = self.is_live.then(joined)?;
         is_one_grapheme(&joined).then_some(joined)
     }
@@ -97,7 +190,12 @@ mod tests {
         for simple in ('\0'..=char::MAX).filter(|it| is_simple(*it)) {
             let text = format!("{simple}{simple}か{simple}x");
             assert_eq!(text_width(&text, Widths::OneColumn), 5, "{simple:?}");
-            assert!(text_width(&simple.to_string(), Widths::Unicode) > 0);
+            let columns = text_width(&simple.to_string(), Widths::Unicode);
+            match columns_of_simple(simple).unwrap() {
+                Columns::One => assert_eq!(columns, 1, "{simple:?}"),
+                Columns::Two => assert_eq!(columns, 2, "{simple:?}"),
+                Columns::OneOrTwo => assert!(columns == 1 || columns == 2, "{simple:?}"),
+            }
             count += 1;
         }
         assert!(count > 100_000);

@@ -52,6 +52,12 @@ impl Titles {
         }
     }
 
+    /// Is empty, and has none saved.
+    pub(crate) fn reset(&mut self) {
+        self.set(Which::Both, "");
+        self.saved.clear();
+    }
+
     /// Whether the window's has changed since the last call.
     pub(crate) fn take_change(&mut self) -> bool {
         std::mem::take(&mut self.has_changed)

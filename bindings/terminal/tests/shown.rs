@@ -15,7 +15,7 @@ fn texts_and_control_characters() {
         &[
             ("abcdefgh", &["abcdef", "gh", ""], (2, 1)),
             ("abcdef\r\nx", &["abcdef", "x", ""], (1, 1)),
-            ("abcdef\nx", &["abcdef", "     x", ""], (6, 1)),
+            ("abcdef\nx", &["abcdef", "", "x"], (1, 2)),
             ("1\r\n2\r\n3\r\n4", &["2", "3", "4"], (1, 2)),
             ("1\x0b2\x0c3", &["1", " 2", "  3"], (3, 2)),
             ("a\tb", &["a    b", "", ""], (6, 0)),

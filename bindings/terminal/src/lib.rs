@@ -1,9 +1,9 @@
 //! A terminal: the bytes that a program writes become changes of a surface.
 //!
-//! A [`Terminal`] is fed what a program writes to its terminal, cut anywhere, and shows that on its
+//! A [`Terminal`] is fed what a program writes to its terminal, cut anywhere, and shows it on its
 //! [`Surface`]. It knows the sequences that terminfo's entries `xterm-256color`, `tmux-256color`
-//! and `screen-256color` name: a program may be told that its `TERM` is one of them. It has no pty
-//! and no window: whoever embeds it brings the bytes, sends the program its keys, and the
+//! and `screen-256color` name, so that a program's `TERM` may be any of them. It has no pty and no
+//! window: whoever embeds it brings the bytes, and sends the program its keys and the
 //! [reports](Terminal::take_reports) that it asks for.
 //!
 //! ```
@@ -16,13 +16,19 @@
 //! # Ok::<(), tikeburo::Error>(())
 //! ```
 //!
-//! What it does not do: sets of cells with a size of their own, images, the clipboard of `OSC 52`,
-//! and the `id` of a link of `OSC 8`, by which links in several places are one. What it meets and
-//! doesn't know is [counted](Terminal::unknown_count). The strings of `DCS`, `APC`, `PM` and `SOS`
-//! are skipped.
+//! What it doesn't know changes nothing, and is [counted](Terminal::unknown_count): images, rows of
+//! double size, the clipboard of `OSC 52`, and each string of `DCS`, `APC`, `PM` or `SOS`, which is
+//! skipped. Of a link of `OSC 8` it keeps the uri, and not the `id` that joins links in several
+//! places. The crate's page has what else it knows, and what xterm does otherwise.
 //!
-//! A string of `OSC` has 1,023 bytes at most. A longer title is cut, and a link that would be cut
-//! is none.
+//! A string of `OSC` has 1,023 bytes at most. A longer title is cut, and a longer link is none.
+//!
+//! # Rows that are never shown
+//!
+//! [`Terminal::feed`] makes the changes of the surface that its bytes lead to, and no others: where
+//! no [scrollback](Terminal::keep_scrollback) keeps the rows, it leaves out texts that scroll off,
+//! or that a clear of the whole screen removes, before it returns. Large chunks of a long output so
+//! take less than small ones.
 #![deny(missing_docs)]
 #![forbid(unsafe_code)]
 #![warn(clippy::missing_errors_doc, clippy::must_use_candidate)]
@@ -51,6 +57,11 @@ mod text;
 mod titles;
 mod widths;
 
+/// Tests the programs of the crate's page.
+#[cfg(doctest)]
+#[doc = include_str!("../README.md")]
+struct Readme;
+
 pub use colors::Colors;
 pub use modes::{Modes, MouseEncoding, MouseTracking};
 pub use widths::wcwidth_widths;
@@ -64,7 +75,7 @@ use tikeburo::{Changes, Error, Lines, Options, Surface};
 /// The most columns, and the most rows, that a terminal may have.
 const MOST: usize = u16::MAX as usize;
 
-/// A surface that shows what a terminal would, of the bytes that it is fed.
+/// A surface that shows what a program writes to its terminal.
 pub struct Terminal {
     input: Input,
     emulator: Emulator,
@@ -95,35 +106,35 @@ impl Terminal {
     }
 
     /// Takes bytes that a program writes, cut anywhere: a character, a grapheme or a sequence may
-    /// go on in the next ones. What is no UTF-8 is shown as U+FFFD.
+    /// go on in the next ones. Bytes that are no UTF-8 are shown as U+FFFD.
     ///
     /// # Errors
     ///
     /// [`Error::Numbers`] and [`Error::Memory`], as of [`Surface::add_change`]. All bytes are
-    /// taken, but the surface may lack some of what they change.
+    /// taken, but the surface may lack some of the changes.
     pub fn feed(&mut self, bytes: &[u8]) -> Result<(), Error> {
         self.input.feed(bytes, &mut self.emulator);
         self.emulator.finish()
     }
 
     /// Takes another size in columns and rows. Rows are cut or filled with blanks at the right, and
-    /// at the bottom; where the cursor's would be cut, rows scroll off at the top in its place. The
+    /// at the bottom. Where the cursor's row would be cut, rows at the top scroll off instead. The
     /// margins are those of the whole screen then. Lines that were wrapped stay as they are, unless
-    /// they are to be [wrapped anew](Terminal::set_reflow).
+    /// [`Terminal::set_reflow`] is on.
     ///
     /// # Errors
     ///
     /// [`Error::Range`]: the size, as of [`Terminal::new`]; nothing has changed. [`Error::Numbers`]
-    /// and [`Error::Memory`], as of [`Surface::resize`]. Where lines are wrapped anew, the rows
-    /// that are kept may be lost then.
+    /// and [`Error::Memory`], as of [`Surface::resize`]. Where lines are wrapped anew, the kept rows
+    /// may be lost then.
     pub fn resize(&mut self, width: usize, height: usize) -> Result<(), Error> {
         check_size(width, height)?;
         self.emulator.resize(width, height)?;
         self.emulator.finish()
     }
 
-    /// Whether [`Terminal::resize`] wraps the lines of the main screen and of the scrollback anew
-    /// where the width changes. It doesn't at first. While it does, the last cell of a row that
+    /// Sets whether [`Terminal::resize`] wraps the lines of the main screen and of the scrollback
+    /// anew where the width changes. It is off at first. While it is on, the last cell of a row that
     /// goes on in the next one is marked as [wrapped](tikeburo::Attributes::wrapped); rows that were
     /// filled before are lines of their own. Spaces at the end of a line that is wrapped anew are
     /// dropped.
@@ -149,19 +160,19 @@ impl Terminal {
         &self.emulator.surface
     }
 
-    /// The surface, for those calls that need it for themselves: [`Surface::respond`],
-    /// [`Surface::keep_changes`] and [`Recorder::record`](tikeburo::Recorder::record). The terminal
-    /// isn't told of what is changed on it.
+    /// The surface, for [`Surface::respond`], [`Surface::keep_changes`] and
+    /// [`Recorder::record`](tikeburo::Recorder::record). A change that is made on it directly may
+    /// leave the terminal's texts in another place or pen than a program expects.
     pub fn surface_mut(&mut self) -> &mut Surface {
         &mut self.emulator.surface
     }
 
-    /// Keeps the rows that scroll off the main screen from now on, the last ones, at most so many.
-    /// What was kept before goes.
+    /// Keeps the rows that scroll off the main screen from now on, the last `limit` of them. Rows
+    /// that were kept before are dropped.
     ///
     /// ```
-    /// use tikeburo_terminal::Terminal;
     /// use tikeburo::RowBuffer;
+    /// use tikeburo_terminal::Terminal;
     ///
     /// let mut terminal = Terminal::new(20, 2)?;
     /// terminal.keep_scrollback(1000)?;
@@ -175,7 +186,7 @@ impl Terminal {
     ///
     /// # Errors
     ///
-    /// [`Error::Memory`].
+    /// [`Error::Memory`]: what was kept before still is.
     pub fn keep_scrollback(&mut self, limit: usize) -> Result<(), Error> {
         self.emulator.scrollback = Some(Scrollback::new(limit)?);
         Ok(())
@@ -187,7 +198,7 @@ impl Terminal {
         self.emulator.scrollback.as_ref().map(|it| &it.lines)
     }
 
-    /// What the program has set for keys, pastes and the mouse.
+    /// The modes that the program has set for keys, pastes and the mouse, and for its texts.
     #[must_use]
     pub fn modes(&self) -> &Modes {
         &self.emulator.modes
@@ -205,34 +216,34 @@ impl Terminal {
         self.emulator.titles.icon()
     }
 
-    /// The colours that programs are told, as they have set them.
+    /// The colours that are reported to programs, as they have set them.
     #[must_use]
     pub fn colors(&self) -> &Colors {
         &self.emulator.colors
     }
 
-    /// Tells programs these colours, which they may set and reset.
+    /// Sets the colours that are reported to programs, and that a program's reset brings back.
     pub fn set_colors(&mut self, colors: Colors) {
         self.emulator.usual_colors = colors.clone();
         self.emulator.colors = colors;
     }
 
-    /// The bytes that the program asked for since the last call, which are to be sent to it as its
-    /// keys are: what kind of terminal it has, where the cursor is, colours and modes. At most
-    /// 65,536 bytes wait to be taken; what is asked for behind them is not reported.
+    /// Returns the reports that the program has asked for since the last call: the kind of
+    /// terminal, the cursor's place, colours and modes. Send them to the program as its keys are
+    /// sent. At most 65,536 bytes are kept; a report that has no room is dropped.
     #[must_use]
     pub fn take_reports(&mut self) -> Vec<u8> {
         mem::take(&mut self.emulator.reports)
     }
 
-    /// How many times the bell was rung since the last call.
+    /// Returns how many times the bell was rung since the last call.
     #[must_use]
     pub fn take_bells(&mut self) -> usize {
         mem::take(&mut self.emulator.bells)
     }
 
-    /// How many sequences and strings the terminal has met that it doesn't know, or that have
-    /// something in them that it doesn't know. They have changed nothing, or what it knew of them.
+    /// Returns how many sequences and strings have come that are unknown, or have an unknown part.
+    /// An unknown one changes nothing, and of the others the known parts count.
     #[must_use]
     pub fn unknown_count(&self) -> usize {
         self.emulator.unknown

@@ -17,16 +17,16 @@ pub(crate) struct Batch {
     changes: Changes,
     /// The column and the row. The column is the width where a wrap is pending.
     place: (usize, usize),
-    /// Whether the surface has the pen of coming texts then.
+    /// Whether they leave the surface with the pen of coming texts.
     has_pen: bool,
-    /// Whether the next pen is to be set whole, as it may be that of a list's first change.
+    /// Whether the next change may become the first one of a list, and has to set the whole pen.
     begins_anew: bool,
     end: End,
     bytes: usize,
     skips: Skips,
 }
 
-/// What they end with.
+/// What the last change is.
 #[derive(Clone, Copy, PartialEq, Eq, Default)]
 enum End {
     /// No text, or a line end.
@@ -39,43 +39,43 @@ enum End {
 }
 
 impl Batch {
-    /// Whether there are so many that they are to be made before others come.
+    /// Whether the list is long enough to be made before more changes come.
     #[inline]
     pub(crate) fn is_full(&self) -> bool {
         self.changes.len() >= MOST_CHANGES || self.bytes >= MOST_BYTES
     }
 
-    /// Whether what is printed next follows a text in the same change.
+    /// Whether the next text is appended to the last change.
     pub(crate) fn ends_with_text(&self) -> bool {
         self.end != End::Apart
     }
 
-    /// Whether the surface's cursor is at this place then.
+    /// Whether the changes leave the surface's cursor at this place.
     #[inline]
     pub(crate) fn is_at(&self, x: usize, y: usize) -> bool {
         self.place == (x, y)
     }
 
-    /// Whether the surface's cursor is in this row then.
+    /// Whether the changes leave the surface's cursor in this row.
     #[inline]
     pub(crate) fn is_in_row(&self, y: usize) -> bool {
         self.place.1 == y
     }
 
-    /// Notes where the surface's cursor is, once it was moved otherwise, and that its pen may be
-    /// another one.
+    /// Starts anew from the surface's cursor, after a call that isn't a change of this list moved
+    /// it. The surface's pen is unknown then.
     pub(crate) fn start_from(&mut self, surface: &Surface) {
         self.place = surface.cursor_position();
         self.has_pen = false;
     }
 
-    /// Notes that the pen of coming texts may be another one than the surface has.
+    /// Notes that the pen of coming texts may differ from the surface's.
     #[inline]
     pub(crate) fn change_pen(&mut self) {
         self.has_pen = false;
     }
 
-    /// Keeps a text that isn't simple from being one with a text before it that isn't its own.
+    /// Keeps the next text from joining the last one, where a character of either might do so.
     pub(crate) fn cut(&mut self, is_simple: bool) {
         if !matches!((self.end, is_simple), (End::Apart, _) | (End::Simple, true)) {
             self.changes.move_to(self.place.0, self.place.1);
@@ -92,7 +92,7 @@ impl Batch {
         }
     }
 
-    /// Prints a text at the place, with this pen, and goes to this one.
+    /// Prints a text with this pen, which leaves the cursor at this place.
     #[inline]
     pub(crate) fn print(
         &mut self,
@@ -117,7 +117,7 @@ impl Batch {
         }
     }
 
-    /// Goes to this place by a line end of a text.
+    /// Prints a line end, which leaves the cursor at this place.
     #[inline]
     pub(crate) fn end_line(&mut self, line_end: &str, place: (usize, usize)) {
         self.append(line_end, place, End::Apart);
@@ -130,7 +130,7 @@ impl Batch {
         (self.place, self.end) = (place, end);
     }
 
-    /// Notes that texts have scrolled so many rows off the whole screen, which nobody keeps.
+    /// Notes that texts scroll `count` rows off the whole screen, and that nobody keeps them.
     #[inline]
     pub(crate) fn scroll_off(&mut self, count: usize) {
         if self.skips.scroll(count, self.changes.len()) {
@@ -138,7 +138,7 @@ impl Batch {
         }
     }
 
-    /// Makes the next changes need neither the place nor the pen of those before.
+    /// Lets the next changes stand by themselves: they set their own place and pen.
     fn begin_anew(&mut self) {
         (self.place, self.end) = (NOWHERE, End::Apart);
         (self.has_pen, self.begins_anew) = (false, true);
@@ -181,7 +181,7 @@ impl Batch {
         }
     }
 
-    /// Clears from this place to the end of the screen.
+    /// Clears from a place to the end of the screen.
     pub(crate) fn erase_below(&mut self, x: usize, y: usize, background: ColorAttribute) {
         self.move_to(x, y);
         (self.has_pen, self.begins_anew) = (false, false);
@@ -189,7 +189,7 @@ impl Batch {
         self.end = End::Apart;
     }
 
-    /// Drops the changes: all that they print is going to be cleared, and nobody keeps it.
+    /// Drops all changes, since a clear of the whole screen follows and nobody keeps rows.
     pub(crate) fn drop_all(&mut self) {
         self.changes.clear();
         self.skips.clear();
@@ -197,7 +197,7 @@ impl Batch {
         self.begin_anew();
     }
 
-    /// Appends what is shown beside cells.
+    /// The list, for changes of what is shown beside cells.
     pub(crate) fn settings(&mut self) -> &mut Changes {
         self.end = End::Apart;
         &mut self.changes

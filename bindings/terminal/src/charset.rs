@@ -6,7 +6,7 @@ const DRAWINGS: [char; 32] = [
     '⎼', '⎽', '├', '┤', '┴', '┬', '│', '≤', '≥', 'π', '≠', '£', '·',
 ];
 
-/// A set of characters, which shows bytes of ASCII.
+/// A set of characters that are shown for those of ASCII.
 #[derive(Clone, Copy, PartialEq, Eq, Default)]
 enum Charset {
     #[default]
@@ -34,7 +34,7 @@ pub(crate) struct Charsets {
 }
 
 impl Charsets {
-    /// Makes G0 or G1 the set of this final byte. One that isn't known is ASCII.
+    /// Makes G0 or G1 the set that this final byte names. An unknown one is ASCII.
     pub(crate) fn designate(&mut self, number: usize, byte: u8) {
         self.sets[number] = match byte {
             b'0' => Charset::Drawing,
@@ -54,7 +54,7 @@ impl Charsets {
         self.sets[self.in_use] == Charset::Ascii
     }
 
-    /// The text that is shown for this one.
+    /// The text that is shown for a text of ASCII.
     pub(crate) fn translate(&self, text: &str) -> String {
         let set = self.sets[self.in_use];
         text.chars().map(|it| set.translate(it)).collect()

@@ -4,8 +4,8 @@ use tikeburo::RgbColor;
 const DARK: u8 = 0;
 const LIGHT: u8 = 229;
 
-/// The colours that a terminal tells programs which ask, as they may have set them: those of the
-/// palette, of texts, of the background and of the cursor.
+/// The colours that are reported to programs: those of the palette, of texts, of the background and
+/// of the cursor. A program may set each of them.
 ///
 /// ```
 /// use tikeburo_terminal::{Colors, Terminal};
@@ -109,7 +109,7 @@ fn high_byte(digits: &str) -> Option<u8> {
     } as u8)
 }
 
-/// The share of the greatest number of so many digits, of 255.
+/// A number as a share of the greatest one with as many digits, scaled to 255.
 fn scaled_byte(digits: &str) -> Option<u8> {
     let number = hexadecimal(digits)?;
     let most = (1 << (4 * digits.len())) - 1;

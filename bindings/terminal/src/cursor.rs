@@ -9,7 +9,7 @@ pub(crate) struct Cursor {
     /// The column, and the row.
     pub(crate) x: usize,
     pub(crate) y: usize,
-    /// Whether a text was printed up to the right edge, and the next one goes to the next row.
+    /// Whether a text has filled the row, so that the next character wraps.
     pub(crate) is_wrap_pending: bool,
     pub(crate) pen: Attributes,
     pub(crate) charsets: Charsets,
@@ -18,7 +18,8 @@ pub(crate) struct Cursor {
 }
 
 impl Cursor {
-    /// The column behind what was printed last.
+    /// The column where the next character follows: the one behind the edge where a wrap is
+    /// pending.
     pub(crate) fn end(&self) -> usize {
         self.x + usize::from(self.is_wrap_pending)
     }
@@ -27,7 +28,7 @@ impl Cursor {
         (self.x, self.y, self.is_wrap_pending) = (x, y, false);
     }
 
-    /// Stays behind what was printed last, and inside of a screen of this size.
+    /// Moves into a screen of this size. A wrap stays pending where the row is still full.
     pub(crate) fn fit(&mut self, width: usize, height: usize) {
         let end = self.end();
         self.is_wrap_pending &= end >= width;

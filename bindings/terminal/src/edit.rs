@@ -13,7 +13,7 @@ pub(crate) enum Part {
 }
 
 impl Part {
-    /// The one of a parameter.
+    /// The part that a parameter names.
     pub(crate) fn new(number: usize) -> Option<Part> {
         [Part::FromCursor, Part::ToCursor, Part::All]
             .get(number)
@@ -53,8 +53,8 @@ impl Emulator {
         }
     }
 
-    /// Clears the screen. What was printed before isn't shown, unless it has scrolled off to where
-    /// rows are kept.
+    /// Clears the screen. Unless rows are kept, nothing of the changes before is left, and they are
+    /// dropped.
     fn erase_screen(&mut self) {
         if !self.keeps_rows() {
             self.shift = None;
@@ -70,13 +70,13 @@ impl Emulator {
         self.batch.erase_below(x, y, background);
     }
 
-    /// Clears so many columns from the cursor on.
+    /// Clears `count` columns from the cursor on.
     pub(crate) fn erase_columns(&mut self, count: usize) {
         let x = self.cursor.x;
         self.erase(self.cursor.y, x..self.width.min(x + count));
     }
 
-    /// Copies the cells from a column and row on, of this width and height, to others.
+    /// Copies the cells of a region of this size to another place.
     pub(crate) fn draw_region(
         &mut self,
         from: (usize, usize),
@@ -90,7 +90,7 @@ impl Emulator {
         self.attempt(drawn.map(drop));
     }
 
-    /// Inserts or deletes rows at the cursor, between the margins, and goes to the left one.
+    /// Inserts or deletes rows at the cursor, within the margins, and goes to the left margin.
     pub(crate) fn shift_rows(&mut self, count: usize, is_delete: bool) {
         if self.rows.contains(&self.cursor.y) && self.is_between_margins() {
             self.scroll(self.cursor.y..self.rows.end, count, is_delete);

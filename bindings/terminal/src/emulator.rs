@@ -1,4 +1,4 @@
-//! What a terminal is between bytes, and its control characters.
+//! The state of a terminal, and its control characters.
 
 use crate::batch::Batch;
 use crate::colors::Colors;
@@ -24,29 +24,29 @@ pub(crate) struct Emulator {
     pub(crate) height: usize,
     pub(crate) cursor: Cursor,
     pub(crate) settings: Settings,
-    /// Those that the surface has.
+    /// The settings that the surface has.
     shown_settings: Settings,
     /// The rows, and the columns, between the margins.
     pub(crate) rows: Range<usize>,
     pub(crate) columns: Range<usize>,
     pub(crate) screens: Screens,
     pub(crate) scrollback: Option<Scrollback>,
-    /// Whether lines are wrapped anew in another width, for which wraps are marked.
+    /// Whether lines are wrapped anew in another width. Wrapped rows are marked for it.
     pub(crate) reflows: bool,
     pub(crate) modes: Modes,
     pub(crate) tabs: Tabs,
     pub(crate) titles: Titles,
     pub(crate) colors: Colors,
-    /// Those that a reset sets.
+    /// The colours that a reset brings back.
     pub(crate) usual_colors: Colors,
     pub(crate) last: Last,
     pub(crate) batch: Batch,
-    /// What is inserted and deleted in a row behind the batch.
+    /// Cells that are still to be moved in a row, after the batch is made.
     pub(crate) shift: Option<Shift>,
     pub(crate) reports: Vec<u8>,
     pub(crate) bells: usize,
     pub(crate) unknown: usize,
-    /// Whether `vte` has the whole of the string that ends now, unless that is cancelled.
+    /// Whether the string that ends was short enough for `vte`, or nothing where it was cancelled.
     pub(crate) string_is_whole: Option<bool>,
     outcome: Result<(), Error>,
 }
@@ -81,7 +81,7 @@ impl Emulator {
         })
     }
 
-    /// Notes an error, which `finish` returns.
+    /// Keeps the first error, which `finish` returns.
     pub(crate) fn attempt(&mut self, result: Result<(), Error>) {
         self.outcome = self.outcome.and(result);
     }
@@ -131,7 +131,7 @@ impl Emulator {
         mem::replace(&mut self.outcome, Ok(()))
     }
 
-    /// The column of the surface's cursor where it is at the terminal's.
+    /// The terminal's column as the surface counts it: a wrap that is pending there is one more.
     #[inline]
     pub(crate) fn surface_column(&self) -> usize {
         let end = self.cursor.end();
@@ -149,12 +149,12 @@ impl Emulator {
         self.batch.move_to(self.surface_column(), self.cursor.y);
     }
 
-    /// What the surface was made with.
+    /// The options that the surface was made with.
     pub(crate) fn options(&self) -> Options {
         Options::new().widths(self.surface.widths())
     }
 
-    /// The background of what is cleared.
+    /// The background that clears leave.
     pub(crate) fn background(&self) -> ColorAttribute {
         self.cursor.pen.background
     }
@@ -178,11 +178,11 @@ impl Emulator {
         }
     }
 
-    /// Is as at first, but for the scrollback.
+    /// Resets all but the scrollback.
     pub(crate) fn reset(&mut self) {
         self.cursor = Cursor::default();
         self.start_blank();
-        // Rows that have scrolled off did so on the screen that was shown.
+        // Rows that scrolled off before belong to the screen that was shown.
         self.make();
         self.settings = Settings::default();
         self.screens = Screens::default();
@@ -192,14 +192,14 @@ impl Emulator {
         self.colors = self.usual_colors.clone();
     }
 
-    /// Clears the screen, and is at home, with the margins of the whole screen.
+    /// Clears the screen, resets the margins, and goes home.
     pub(crate) fn start_blank(&mut self) {
         self.reset_margins();
         self.cursor.go(0, 0);
         self.erase_in_screen(Part::All);
     }
 
-    /// Is as at first where that changes nothing that is shown.
+    /// Resets what shows in no cell.
     pub(crate) fn reset_softly(&mut self) {
         let (x, y) = (self.cursor.x, self.cursor.y);
         self.modes.reset_softly();

@@ -19,18 +19,18 @@ enum State {
     Ground,
     /// What `ESC` begins.
     Escape,
-    /// That, behind an intermediate byte.
+    /// An escape sequence, behind its intermediate byte.
     Intermediate,
     /// What `CSI` begins.
     Csi,
     /// The string that `OSC` begins.
     Osc,
-    /// That of `DCS`, `SOS`, `PM` or `APC`, which is skipped.
+    /// The string of `DCS`, `SOS`, `PM` or `APC`, which is skipped.
     Skipped,
 }
 
-/// The state between bytes. Texts and most sequences are read here, and what is cut or rare by
-/// `vte`, which is at its ground wherever this is.
+/// What is known between two chunks. Texts and most sequences are read here, and those that are cut
+/// or rare by `vte`, which is in its ground state whenever this is.
 #[derive(Default)]
 pub(crate) struct Input {
     parser: vte::Parser,
@@ -41,7 +41,7 @@ pub(crate) struct Input {
 }
 
 impl Input {
-    /// Takes bytes, cut anywhere. What is no UTF-8 is a replacement character.
+    /// Takes bytes, cut anywhere. Bytes that are no UTF-8 become replacement characters.
     pub(crate) fn feed(&mut self, bytes: &[u8], emulator: &mut Emulator) {
         if self.cut.is_empty() {
             return self.take_all(bytes, emulator);
@@ -94,7 +94,7 @@ impl Input {
     /// Takes bytes that are no UTF-8, and may be the beginning of a character that is cut.
     fn take_broken(&mut self, bytes: &[u8], is_cut: bool, emulator: &mut Emulator) {
         if matches!(self.state, State::Escape | State::Intermediate | State::Csi) {
-            self.sequence(bytes[0], emulator); // which ends there
+            self.sequence(bytes[0], emulator); // the sequence ends there
         }
         match self.state {
             State::Skipped => {}
@@ -106,8 +106,7 @@ impl Input {
         }
     }
 
-    /// Takes a control character, or the sequence that it begins, and returns how many bytes they
-    /// are.
+    /// Takes a control character, or the sequence that it begins, and returns its length.
     fn control(&mut self, bytes: &[u8], emulator: &mut Emulator) -> usize {
         match *bytes {
             [ESCAPE, ..] => match params::read(bytes, &mut self.params) {
@@ -131,7 +130,7 @@ impl Input {
         1
     }
 
-    /// Takes the parameters of a CSI, and returns how many bytes they are.
+    /// Takes the parameters of a CSI, and returns their length.
     fn parameters(&mut self, bytes: &[u8], emulator: &mut Emulator) -> usize {
         let length = bytes.iter().take_while(|byte| is_parameter(byte)).count();
         for byte in &bytes[..length] {
@@ -140,7 +139,7 @@ impl Input {
         length
     }
 
-    /// Takes bytes of an OSC up to a control character, and returns how many they are.
+    /// Takes the bytes of an OSC up to a control character, and returns their length.
     fn string(&mut self, bytes: &[u8], emulator: &mut Emulator) -> usize {
         let (length, _) = measure_text(bytes);
         self.length += length;
@@ -150,7 +149,7 @@ impl Input {
         length
     }
 
-    /// Takes a byte of a sequence. Returns 0 where it belongs to no sequence, and else 1.
+    /// Takes a byte of a sequence. Returns 1, or 0 where the byte ends the sequence as a text.
     fn sequence(&mut self, byte: u8, emulator: &mut Emulator) -> usize {
         let next = match (self.state, byte) {
             (_, ESCAPE) => State::Escape,
@@ -190,7 +189,7 @@ impl Input {
         1
     }
 
-    /// Skips a string up to what ends it, and returns how many bytes that are.
+    /// Skips a string up to the byte that ends it, and returns the length of both.
     fn skip(&mut self, bytes: &[u8], emulator: &mut Emulator) -> usize {
         let is_end = |byte: &u8| matches!(*byte, ESCAPE | CANCEL | SUBSTITUTE);
         let Some(at) = bytes.iter().position(is_end) else {
@@ -210,17 +209,16 @@ fn is_control(byte: u8) -> bool {
     byte < b' ' || byte == DELETE
 }
 
-/// Whether a byte is of a parameter, or parts two.
+/// Whether a byte belongs to a parameter, or separates two.
 fn is_parameter(byte: &u8) -> bool {
     matches!(*byte, b'0'..=b';')
 }
 
-/// How many bytes of a string `vte` keeps for sure.
+/// The longest string that `vte` keeps whole.
 const LONGEST_STRING: usize = 1023;
 
-/// How many bytes stand before the first control character, and whether they are of ASCII: eight at
-/// once, of which the high bits say whether they are below 32 or 127. What is carried over changes
-/// bytes behind such a one alone.
+/// The number of bytes before the first control character, and whether they are ASCII. Eight bytes
+/// are tested at once, by their high bits: a carry only reaches bytes behind the one that is found.
 fn measure_text(bytes: &[u8]) -> (usize, bool) {
     let each = |byte: u8| u64::from_ne_bytes([byte; 8]);
     let (mut length, mut high) = (0, 0);

@@ -125,8 +125,8 @@ impl Terminal {
     /// # Errors
     ///
     /// [`Error::Range`]: the size, as of [`Terminal::new`]; nothing has changed. [`Error::Numbers`]
-    /// and [`Error::Memory`], as of [`Surface::resize`]. Where lines are wrapped anew, the kept rows
-    /// may be lost then.
+    /// and [`Error::Memory`], as of [`Surface::resize`]. Where lines are wrapped anew, the kept
+    /// rows may be lost then.
     pub fn resize(&mut self, width: usize, height: usize) -> Result<(), Error> {
         check_size(width, height)?;
         self.emulator.resize(width, height)?;
@@ -134,10 +134,10 @@ impl Terminal {
     }
 
     /// Sets whether [`Terminal::resize`] wraps the lines of the main screen and of the scrollback
-    /// anew where the width changes. It is off at first. While it is on, the last cell of a row that
-    /// goes on in the next one is marked as [wrapped](tikeburo::Attributes::wrapped); rows that were
-    /// filled before are lines of their own. Spaces at the end of a line that is wrapped anew are
-    /// dropped.
+    /// anew where the width changes. It is off at first. While it is on, the last cell of a row
+    /// that goes on in the next one is marked as [wrapped](tikeburo::Attributes::wrapped); rows
+    /// that were filled before are lines of their own. Spaces at the end of a line that is wrapped
+    /// anew are dropped.
     ///
     /// ```
     /// use tikeburo_terminal::Terminal;

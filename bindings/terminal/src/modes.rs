@@ -7,17 +7,17 @@ pub enum MouseTracking {
     /// None.
     #[default]
     Off,
-    /// Buttons that go down (`?9`).
+    /// Presses of buttons (`?9`).
     Presses,
-    /// Buttons that go down and up (`?1000`).
+    /// Presses and releases (`?1000`).
     Buttons,
-    /// And moves while a button is down (`?1002`).
+    /// These, and moves while a button is pressed (`?1002`).
     Drags,
-    /// And all moves (`?1003`).
+    /// These, and all moves (`?1003`).
     Moves,
 }
 
-/// How they are reported.
+/// How events of the mouse are reported.
 #[derive(Clone, Copy, PartialEq, Eq, Hash, Debug, Default)]
 #[non_exhaustive]
 pub enum MouseEncoding {
@@ -34,8 +34,8 @@ pub enum MouseEncoding {
     SgrPixels,
 }
 
-/// What a program has set by `CSI h`, `CSI ? h` and their like, for whoever sends it keys, pastes
-/// and the mouse.
+/// The modes that a program has set by `CSI h`, `CSI ? h` and their like, for whoever sends it
+/// keys, pastes and events of the mouse.
 ///
 /// ```
 /// use tikeburo_terminal::{MouseEncoding, MouseTracking, Terminal};
@@ -57,19 +57,19 @@ pub struct Modes {
     pub application_keypad: bool,
     /// The colours of the whole screen are swapped (`?5`).
     pub reverse_screen: bool,
-    /// Texts go on in the next row (`?7`). On at first.
+    /// Texts wrap at the end of a row (`?7`). On at first.
     pub auto_wrap: bool,
     /// The cursor blinks (`?12`).
     pub cursor_blink: bool,
-    /// Texts move what is behind them to the right (`4`).
+    /// Texts move the cells behind them to the right (`4`).
     pub insert: bool,
     /// A line feed goes to the first column, and Enter sends CR and LF (`20`).
     pub line_feed_new_line: bool,
-    /// What is reported of the mouse.
+    /// Which events of the mouse are reported.
     pub mouse_tracking: MouseTracking,
-    /// How it is reported.
+    /// How they are reported.
     pub mouse_encoding: MouseEncoding,
-    /// Focus that comes and goes is reported (`?1004`).
+    /// Changes of focus are reported (`?1004`).
     pub focus_reports: bool,
     /// The mouse's wheel sends cursor keys on the alternate screen (`?1007`).
     pub alternate_scroll: bool,
@@ -77,7 +77,7 @@ pub struct Modes {
     pub eight_bit_meta: bool,
     /// A paste stands between `CSI 200 ~` and `CSI 201 ~` (`?2004`).
     pub bracketed_paste: bool,
-    /// What the program writes is to be shown once this ends (`?2026`).
+    /// The program is in the middle of a frame, which is best shown once this ends (`?2026`).
     pub synchronized_output: bool,
     /// There are margins at the left and the right (`?69`).
     pub left_right_margins: bool,
@@ -145,7 +145,7 @@ impl Modes {
         tracking.or(encoding).or(flag)
     }
 
-    /// What a soft reset sets anew.
+    /// Resets the modes that a soft reset does.
     pub(crate) fn reset_softly(&mut self) {
         *self = Modes {
             application_cursor_keys: false,

@@ -7,14 +7,14 @@ const LINE_FEED: &str = "\n";
 const LINE_END: &str = "\r\n";
 
 impl Emulator {
-    /// Goes to a column and a row, at most the last ones.
+    /// Goes to a column and a row, clamped to the screen.
     pub(crate) fn go(&mut self, x: usize, y: usize) {
         self.cursor
             .go(x.min(self.width - 1), y.min(self.height - 1));
     }
 
-    /// Goes to a column and a row as a program counts them, from 0: from the margins where the
-    /// origin is there, and then at most to the others.
+    /// Goes to a column and a row as a program counts them, from 0. In origin mode they are counted
+    /// from the margins, and clamped to them.
     pub(crate) fn go_from_origin(&mut self, x: usize, y: usize) {
         if !self.cursor.has_origin_at_margins {
             return self.go(x, y);
@@ -78,7 +78,7 @@ impl Emulator {
         self.go(self.left_edge(), self.cursor.y);
     }
 
-    /// The first column that texts and moves of the cursor's row come to.
+    /// The first column that moves to the left reach from the cursor.
     fn left_edge(&self) -> usize {
         let is_before = self.cursor.x < self.columns.start;
         if is_before {
@@ -88,7 +88,7 @@ impl Emulator {
         }
     }
 
-    /// The column behind the last one that they come to.
+    /// The column behind the last one that texts and moves to the right reach from the cursor.
     pub(crate) fn right_edge(&self) -> usize {
         let is_behind = self.cursor.x >= self.columns.end;
         if is_behind {
@@ -112,7 +112,7 @@ impl Emulator {
 
     /// Goes to the next row. At the margin the rows scroll. A pending wrap stays.
     ///
-    /// Where the surface does the same by a line feed in a text, the text goes on.
+    /// Where a line feed in a text does the same on the surface, it is appended to the text.
     pub(crate) fn feed_line(&mut self) {
         let (x, y) = (self.surface_column(), self.cursor.y);
         let below = (y + 1).min(self.height - 1);
@@ -137,7 +137,7 @@ impl Emulator {
         self.cursor.y = below;
     }
 
-    /// Moves the surface's cursor to where a line end scrolls, unless it is in that row already.
+    /// Moves the surface's cursor to the row where a line end scrolls.
     fn put_cursor_for_line_end(&mut self, x: usize, y: usize) {
         let is_near = x == 0 && self.batch.is_in_row(y);
         if !is_near {
@@ -162,8 +162,8 @@ impl Emulator {
         }
     }
 
-    /// Whether so many line feeds do the same on the surface, which knows no margins, and scrolls
-    /// in rows without a background.
+    /// Whether `count` line feeds do the same on the surface, which has no margins, and where rows
+    /// scroll in without a background.
     pub(crate) fn feeds_alike(&self, count: usize) -> bool {
         let y = self.cursor.y;
         let end = if y < self.rows.end {
@@ -192,7 +192,7 @@ impl Emulator {
         }
     }
 
-    /// Goes to a number of tab stops, forward or back. Forward a pending wrap stays.
+    /// Goes `count` tab stops forward or back. A pending wrap stays where it goes forward.
     pub(crate) fn move_to_tab(&mut self, count: usize, is_forward: bool) {
         if is_forward && self.cursor.is_wrap_pending {
             return;
@@ -209,7 +209,7 @@ impl Emulator {
     }
 }
 
-/// Two places at least, of so many.
+/// The range of these margins, which have two places at least of `count`.
 fn margins(first: usize, last: usize, count: usize) -> Option<std::ops::Range<usize>> {
     let start = first.max(1) - 1;
     let end = if last == 0 { count } else { last.min(count) };

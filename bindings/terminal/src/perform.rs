@@ -16,10 +16,8 @@ impl Perform for Emulator {
 
     fn csi_dispatch(&mut self, read: &vte::Params, marks: &[u8], is_cut: bool, last: char) {
         let mut params = Params::default();
-        let numbers = read.iter().flat_map(|param| param.iter().enumerate());
-        let all = numbers.fold(Some(()), |all, (index, number)| {
-            all.and(params.push(*number, index > 0))
-        });
+        let mut numbers = read.iter().flat_map(|param| param.iter().enumerate());
+        let all = numbers.try_for_each(|(index, number)| params.push(*number, index > 0));
         match (Marks::of(marks), u8::try_from(last)) {
             (Some(marks), Ok(last)) if all.is_some() && !is_cut => {
                 self.do_csi(&params, marks, last);

@@ -4,7 +4,7 @@ use crate::emulator::Emulator;
 use crate::text::{is_one_grapheme, is_simple, Run};
 use tikeburo::{text_width, Attributes, Cell, Error, Widths};
 
-/// How many bytes a grapheme has at most: what joins it behind them is left out.
+/// The most bytes of a grapheme: a mark with which it would have more is left out.
 const LONGEST_GRAPHEME: usize = 128;
 
 impl Emulator {
@@ -40,7 +40,8 @@ impl Emulator {
         }
     }
 
-    /// Prints simple characters, one at least, which are this run.
+    /// Prints a text of simple characters, which is this run and isn't empty.
+    #[inline]
     fn print_simple(&mut self, text: &str, run: Run) {
         if !self.last.is_live {
             self.batch.cut(true);
@@ -75,7 +76,7 @@ impl Emulator {
         is_plain && self.modes.auto_wrap && self.columns.len() == self.width
     }
 
-    /// Prints simple characters, as many as have room in a row, and then the others.
+    /// Prints simple characters row by row.
     fn print_by_rows(&mut self, text: &str) {
         let mut rest = text;
         while let Some(first) = rest.chars().next() {
@@ -88,15 +89,15 @@ impl Emulator {
                 self.last.set_simple(piece);
                 rest = &rest[run.length..];
             } else if room == 0 && !self.modes.auto_wrap && rest.is_ascii() && rest.len() > 1 {
-                rest = &rest[rest.len() - 1..]; // which is printed last in the last column
+                rest = &rest[rest.len() - 1..]; // the last character stays in the last column
             } else if !self.make_room(self.columns_of(&rest[..first.len_utf8()])) {
                 rest = &rest[first.len_utf8()..];
             }
         }
     }
 
-    /// Goes to where so many columns have room: to the next row, or back. Returns whether there is
-    /// such a place.
+    /// Goes to a place with room for `columns`: to the next row, or back. Returns whether there is
+    /// one.
     fn make_room(&mut self, columns: usize) -> bool {
         if columns > self.columns.len() {
             return false;
@@ -114,21 +115,22 @@ impl Emulator {
         true
     }
 
-    /// Makes room for so many columns where texts are inserted.
+    /// Moves cells to the right by `columns`, in insert mode.
     fn insert(&mut self, columns: usize) {
         if self.modes.insert {
             self.insert_columns(columns);
         }
     }
 
-    /// Prints a text of so many columns, which have room in the cursor's row, and says whether its
-    /// characters are simple.
+    /// Prints a text of `columns`, which have room in the cursor's row.
+    #[inline]
     fn put(&mut self, text: &str, columns: usize, is_simple: bool) {
         self.put_cursor();
         self.put_to(text, self.cursor.end() + columns, self.cursor.y, is_simple);
     }
 
     /// Prints a text that ends before this column of this row.
+    #[inline]
     fn put_to(&mut self, text: &str, end: usize, y: usize, is_simple: bool) {
         let is_full = end == self.right_edge();
         self.batch
@@ -167,7 +169,7 @@ impl Emulator {
         self.last.set(text);
     }
 
-    /// Prints what joins the last grapheme, so that both are this one.
+    /// Prints a mark that joins the last grapheme, so that both are `joined`.
     fn join(&mut self, joined: String, mark: &str) {
         let columns = self.cell_columns_of(&self.last.text());
         let start = self.cursor.end() - columns;
@@ -190,8 +192,8 @@ impl Emulator {
         self.last.set(&joined);
     }
 
-    /// Prints a mark into the cell before the cursor, where both are a grapheme of as many columns.
-    /// Others are left out, since they have no columns of their own.
+    /// Adds a mark to the cell before the cursor, where both are one grapheme of the cell's width.
+    /// Any other mark is left out, since it has no column of its own.
     fn join_cell(&mut self, mark: &str) -> Result<(), Error> {
         let Some((column, cell)) = self.cell_before()? else {
             return Ok(());
@@ -236,14 +238,14 @@ impl Emulator {
         }))
     }
 
-    /// Prints a grapheme of so many columns at a column of the cursor's row, which stays there.
+    /// Prints a grapheme at a column of the cursor's row. The cursor stays.
     fn replace_cell(&mut self, column: usize, text: &str, columns: usize, pen: &Attributes) {
         self.settle();
         self.print_at((column, self.cursor.y), text, columns, pen);
     }
 
-    /// Prints the last grapheme so many times more, at most as often as the screen has cells, where
-    /// nothing but texts has come since.
+    /// Prints the last grapheme `count` times more, but no more often than the screen has cells.
+    /// After anything but a text there is none.
     pub(crate) fn repeat(&mut self, count: usize) {
         if self.last.is_live {
             let count = count.min(self.width * self.height);

@@ -6,10 +6,10 @@ use std::mem;
 use std::ops::Range;
 use tikeburo::{Attributes, Changes, Error, Lines, Options, RowBuffer, RowCell, Surface};
 
-/// What a row has of a line.
+/// The part of a line that a row has.
 #[derive(Clone, Copy, Default)]
 struct Part {
-    /// Its columns up to the last cell that isn't a default blank, and those of that cell.
+    /// The columns up to the last cell that isn't a default blank, and those of that cell.
     columns: usize,
     last_columns: usize,
     /// Whether the line goes on in the next row.
@@ -38,8 +38,8 @@ fn is_blank(cell: &RowCell<'_>) -> bool {
     cell.str() == " " && !cell.has_link() && *cell.attrs() == Attributes::default()
 }
 
-/// Gives the main screen another size: its lines and those of the scrollback are wrapped anew. The
-/// screen begins with the line that it began with, where the cursor's and those below it have room.
+/// Gives the main screen another size, and wraps its lines and those of the scrollback anew. The
+/// screen begins with the same line as before, unless the cursor's row would have no room.
 pub(crate) fn reflow(
     surface: &mut Surface,
     cursor: &mut Cursor,
@@ -74,7 +74,8 @@ pub(crate) fn reflow(
     Ok(())
 }
 
-/// Appends the rows of a surface to lines, up to the last one that shows something, or this one.
+/// Appends the rows of a surface to lines, up to the last one that shows something, and at least
+/// up to row `least`.
 fn push_rows(surface: &Surface, least: usize, lines: &mut Lines) -> Result<(), Error> {
     let mut row = RowBuffer::new();
     let mut last = surface.dimensions().1 - 1;
@@ -88,14 +89,14 @@ fn push_rows(surface: &Surface, least: usize, lines: &mut Lines) -> Result<(), E
     (0..=last).try_for_each(|y| lines.push_row(surface, y))
 }
 
-/// What wraps lines.
+/// Wraps lines.
 struct Wrapper<'a> {
     old: &'a Lines,
     parts: Vec<Part>,
     new: Lines,
     width: usize,
     options: Options,
-    /// On which a line of `old` is drawn.
+    /// A surface of one row, on which lines are drawn.
     row: Surface,
     buffer: RowBuffer,
 }
@@ -118,8 +119,7 @@ impl<'a> Wrapper<'a> {
         })
     }
 
-    /// Wraps all lines. Places, each a row and a column of the old ones, become those of the new
-    /// ones.
+    /// Wraps all lines. Places, each an old row and column, become new ones.
     fn wrap_all(&mut self, mut places: [&mut (usize, usize); 2]) -> Result<(), Error> {
         let olds = [*places[0], *places[1]];
         let mut begin = 0;
@@ -158,7 +158,7 @@ impl<'a> Wrapper<'a> {
         Ok(())
     }
 
-    /// A surface of one row that has the line of these rows, which are marked no longer.
+    /// A surface of one row that has the line of these rows, without the marks of its wraps.
     fn join(&mut self, rows: Range<usize>, columns: usize) -> Result<Surface, Error> {
         let mut joined = Surface::with_options(columns.max(1), 1, self.options)?;
         let mut column = 0;
@@ -182,7 +182,7 @@ impl<'a> Wrapper<'a> {
         Ok(joined)
     }
 
-    /// The new line and column of what is so many columns behind the beginning of this line.
+    /// The new row and column that are `offset` columns behind the beginning of row `start`.
     fn find(&mut self, start: usize, offset: usize) -> Result<(usize, usize), Error> {
         let (mut line, mut column) = (start, offset);
         while line + 1 < self.new.len() {

@@ -5,7 +5,7 @@ use std::fmt::Arguments;
 use std::str;
 use tikeburo::{ColorAttribute, RgbColor};
 
-/// How many bytes of reports wait at most for being taken: what is asked for then isn't reported.
+/// The most bytes of reports that wait to be taken. A report that has no room is dropped.
 const MOST_BYTES: usize = 1 << 16;
 
 impl Emulator {
@@ -16,17 +16,17 @@ impl Emulator {
         }
     }
 
-    /// A terminal as the VT220, with colours.
+    /// Reports a VT220 with colours.
     pub(crate) fn report_device(&mut self) {
         self.report(format_args!("\x1b[?62;22c"));
     }
 
-    /// The kind of terminal, its version, and no keyboard.
+    /// Reports the kind of terminal, its version, and no keyboard.
     pub(crate) fn report_version(&mut self) {
         self.report(format_args!("\x1b[>1;0;0c"));
     }
 
-    /// Its number, which is none.
+    /// Reports the unit's number, which is 0.
     pub(crate) fn report_unit(&mut self) {
         self.report(format_args!("\x1bP!|00000000\x1b\\"));
     }
@@ -36,8 +36,8 @@ impl Emulator {
         self.report(format_args!("\x1bP>|tikeburo({version})\x1b\\"));
     }
 
-    /// That all is well, or where the cursor is, from 1 on, behind a mark. Returns whether it is
-    /// known what is asked for.
+    /// Reports that all is well, or the cursor's place, counted from 1, behind a mark. Returns
+    /// whether the kind of report is known.
     pub(crate) fn report_status(&mut self, kind: usize, mark: &str) -> bool {
         match kind {
             5 if mark.is_empty() => self.report(format_args!("\x1b[0n")),
@@ -59,7 +59,7 @@ impl Emulator {
         self.report(format_args!("\x1b[8;{height};{width}t"));
     }
 
-    /// Whether a mode is on, off or not known.
+    /// Reports whether a mode is on, off or unknown.
     pub(crate) fn report_mode(&mut self, number: u16, mark: &str) {
         let is_on = match (mark, number) {
             ("?", 6) => Some(self.cursor.has_origin_at_margins),
@@ -72,8 +72,8 @@ impl Emulator {
         self.report(format_args!("\x1b[{mark}{number};{state}$y"));
     }
 
-    /// Sets colours of the palette, or reports them: an index and a colour, or `?`, each. Returns
-    /// whether all are known.
+    /// Sets colours of the palette, or reports them: the words are pairs of an index and a colour,
+    /// or `?`. Returns whether all are known.
     pub(crate) fn change_palette(&mut self, words: &[&[u8]], end: &str) -> bool {
         words.chunks(2).fold(true, |is_known, pair| {
             let index = text(pair[0]).parse::<u8>().ok();
@@ -99,7 +99,7 @@ impl Emulator {
         })
     }
 
-    /// Sets the colours of texts, the background or the cursor as at first.
+    /// Resets the colour of texts, the background or the cursor.
     pub(crate) fn reset_color(&mut self, number: usize) {
         if let Some(usual) = self.usual_colors.named(number).copied() {
             self.set_color(number, usual);
@@ -109,7 +109,7 @@ impl Emulator {
         }
     }
 
-    /// Sets colours of the palette as at first: those of these indices, or all.
+    /// Resets colours of the palette: those of these indices, or all.
     pub(crate) fn reset_palette(&mut self, words: &[&[u8]]) {
         if words.iter().all(|word| word.is_empty()) {
             self.colors.palette = self.usual_colors.palette;
@@ -133,8 +133,8 @@ impl Emulator {
         Some(())
     }
 
-    /// Makes a colour the one of a text, or reports it where that is `?`. Returns nothing where it
-    /// is neither.
+    /// Sets a colour to the one that a word names, or reports it where the word is `?`. Returns
+    /// nothing where the word is neither.
     fn change_color(
         &mut self,
         word: &[u8],
@@ -154,7 +154,7 @@ impl Emulator {
     }
 }
 
-/// The text of a word of an OSC, or nothing where that is none.
+/// The text of a word of an OSC, which is empty where the word is no UTF-8.
 fn text(word: &[u8]) -> &str {
     str::from_utf8(word).unwrap_or_default()
 }

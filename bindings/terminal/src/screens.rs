@@ -1,4 +1,4 @@
-//! The main and the alternate screen, and another size.
+//! The main and the alternate screen, and their size.
 
 use crate::cursor::Cursor;
 use crate::edit::Part;
@@ -7,11 +7,11 @@ use crate::reflow::reflow;
 use crate::Scrollback;
 use tikeburo::{Changes, Error, Surface};
 
-/// Which screen is shown, and what the other one has.
+/// The screen that is shown, and the hidden one.
 #[derive(Default)]
 pub(crate) struct Screens {
     pub(crate) is_alternate: bool,
-    /// None where it is blank.
+    /// The hidden screen, or nothing where that is blank.
     hidden: Option<Surface>,
     /// The saved cursors of the main and the alternate screen.
     saved: [Cursor; 2],
@@ -35,8 +35,7 @@ impl Emulator {
         self.batch.change_pen();
     }
 
-    /// Sets one of the modes that show the alternate screen or the main one. Returns whether this
-    /// is one.
+    /// Sets a mode that shows the alternate or the main screen. Returns whether it is one.
     pub(crate) fn set_screen(&mut self, mode: u16, is_alternate: bool) -> bool {
         let is_other = is_alternate != self.screens.is_alternate;
         match mode {
@@ -84,7 +83,7 @@ impl Emulator {
         self.surface.draw_from_screen(&other, 0, 0).map(drop)
     }
 
-    /// Takes another size, from 1 on.
+    /// Takes another size, of at least one column and row.
     pub(crate) fn resize(&mut self, width: usize, height: usize) -> Result<(), Error> {
         self.make();
         let size = (width, height);
@@ -120,8 +119,8 @@ impl Emulator {
     }
 }
 
-/// Gives a screen another size. Rows are cut at the bottom, but the cursor's stays: then rows
-/// scroll off.
+/// Gives a screen another size. Rows are cut at the bottom, and where the cursor's would be, rows
+/// scroll off at the top instead.
 fn resize(
     surface: &mut Surface,
     cursor: &mut Cursor,

@@ -7,7 +7,7 @@ use crate::titles::Which;
 use tikeburo::{CursorShape, Hyperlink};
 
 impl Emulator {
-    /// Does what a `CSI` with these parameters and marks says that ends with this byte.
+    /// Does what a `CSI` says, which has these parameters and marks and ends with this byte.
     pub(crate) fn do_csi(&mut self, params: &Params, marks: Marks, last: u8) {
         let was_live = std::mem::take(&mut self.last.is_live);
         let is_known = if marks != Marks::NONE {
@@ -40,8 +40,8 @@ impl Emulator {
         self.batch.change_pen();
     }
 
-    /// Does what an escape sequence with this intermediate byte, or 0, says that ends with this
-    /// byte.
+    /// Does what an escape sequence says, which has this intermediate byte, or 0, and ends with
+    /// this one.
     pub(crate) fn do_escape(&mut self, mark: u8, last: u8) {
         self.last.is_live = false;
         match (mark, last) {
@@ -54,21 +54,21 @@ impl Emulator {
             (0, b'M') => self.feed_line_back(),
             (0, b'Z') => self.report_device(),
             (0, b'c') => self.reset(),
-            // Rows above the cursor are kept from scrolling.
+            // Locks the rows above the cursor, which then don't scroll.
             (0, b'l') => self.rows = self.cursor.y..self.rows.end.max(self.cursor.y + 1),
             (0, b'm') => self.rows = 0..self.rows.end,
             (0, b'g') => self.ring_bell(),
             (b'#', b'8') => self.fill_screen(),
             (b'(', set) => self.cursor.charsets.designate(0, set),
             (b')', set) => self.cursor.charsets.designate(1, set),
-            // The end of a string, and sets of characters that are never used.
+            // The end of a string, and sets of characters that nothing shifts to.
             (0, b'\\') | (b'%', b'@' | b'G') | (b'*' | b'+', _) => {}
             _ => self.count_unknown(),
         }
     }
 
-    /// Does what an `OSC` of these words says, which may be cut. Reports have this end. Returns
-    /// whether it is known.
+    /// Does what an `OSC` of these words says, the last of which may be cut. A report gets the same
+    /// end. Returns whether the sequence is known.
     pub(crate) fn do_osc(&mut self, words: &[&[u8]], is_whole: bool, end: &str) -> bool {
         match words {
             [b"0", title @ ..] => self.set_title(Which::Both, title, is_whole),
@@ -88,7 +88,7 @@ impl Emulator {
         true
     }
 
-    /// Moves the cursor by a CSI that ends with this. Returns whether it is known.
+    /// Moves the cursor by a CSI that ends with this byte. Returns whether it is known.
     fn move_cursor(&mut self, params: &Params, last: u8) -> bool {
         let count = params.count();
         match last {
@@ -119,7 +119,7 @@ impl Emulator {
         true
     }
 
-    /// Clears or moves cells, sets margins and the like, by a CSI that ends with this. Returns
+    /// Clears or moves cells, sets margins, or reports, by a CSI that ends with this byte. Returns
     /// whether it is known.
     fn edit(&mut self, params: &Params, last: u8) -> bool {
         let (first, count) = (params.number(0), params.count());
@@ -133,7 +133,7 @@ impl Emulator {
             (b'c', 0) => self.report_device(),
             (b'g', 0) => self.tabs.set(self.cursor.x, false),
             (b'g', 3) => self.tabs.clear(),
-            (b'i', 0 | 4 | 5) => {} // no printer is there
+            (b'i', 0 | 4 | 5) => {} // there is no printer
             (b'n', _) => return self.report_status(first, ""),
             (b'r', _) => self.set_row_margins(first, params.number(1)),
             (b't', 18) => self.report_size(),
@@ -143,7 +143,7 @@ impl Emulator {
         true
     }
 
-    /// Does what a CSI says that has marks beside its parameters. Returns whether it is known.
+    /// Does what a CSI with marks says. Returns whether it is known.
     fn set_or_report(&mut self, params: &Params, marks: Marks, last: u8) -> bool {
         let first = params.number(0);
         match (marks.before, marks.behind, last) {
@@ -182,7 +182,7 @@ impl Emulator {
     }
 
     fn set_modes(&mut self, params: &Params, is_on: bool) -> bool {
-        // The cursor of some terminals is plainer by 34.
+        // Some terminals show a plainer cursor by 34.
         let set = |number| self.modes.set_ansi(number, is_on) || number == 34;
         let known = params.iter().map(|param| param[0]).map(set);
         known.fold(true, |all, is_known| all & is_known)
@@ -196,7 +196,7 @@ impl Emulator {
 
     fn set_private_mode(&mut self, number: u16, is_on: bool) -> bool {
         match number {
-            // The embedder has the size: of another width the program gets what it does beside.
+            // The width is the embedder's, and stays.
             3 if self.modes.column_switch => self.start_blank(),
             // A smooth scroll has no meaning here.
             3 | 4 => {}
@@ -224,7 +224,7 @@ impl Emulator {
         self.titles.set(which, title);
     }
 
-    /// Saves the titles, or restores one. Returns whether there is one of this number.
+    /// Saves the titles, or restores those that the number names. Returns whether it names any.
     fn save_title(&mut self, is_save: bool, number: usize) -> bool {
         let Some(which) = Which::new(number) else {
             return false;
@@ -255,7 +255,7 @@ impl Emulator {
     }
 }
 
-/// The text of an OSC, from one of its words on.
+/// The words of an OSC as one text.
 fn text(words: &[&[u8]]) -> String {
     String::from_utf8_lossy(&words.join(&b';')).into_owned()
 }

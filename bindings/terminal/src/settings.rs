@@ -21,7 +21,7 @@ impl Default for Settings {
 }
 
 impl Settings {
-    /// Appends what a surface lacks of these that has others.
+    /// Appends the changes that a surface with other settings lacks.
     pub(crate) fn append_to(&self, changes: &mut Changes, others: &Settings) {
         if self.is_cursor_visible != others.is_cursor_visible {
             changes.cursor_visibility(CursorVisibility::from(self.is_cursor_visible));

@@ -4,9 +4,8 @@ use crate::emulator::Emulator;
 use std::ops::Range;
 use tikeburo::{Attributes, ColorAttribute};
 
-/// What insertions and deletions at one place make of a row: they come in numbers, and the cells are
-/// moved once. From the place to the right edge there are blanks, the cells that are kept, and
-/// blanks again.
+/// Insertions and deletions at one place of a row, which are made at once. From the place to the
+/// right edge they leave inserted blanks, the cells that are kept, and blanks again.
 pub(crate) struct Shift {
     x: usize,
     y: usize,
@@ -35,22 +34,21 @@ impl Shift {
 }
 
 impl Emulator {
-    /// Inserts so many blanks at the cursor, and moves the cells behind them to the right.
+    /// Inserts `count` blanks at the cursor, and moves the cells behind them to the right.
     pub(crate) fn insert_columns(&mut self, count: usize) {
         if let Some(shift) = self.shift_here() {
             shift.insert(count);
         }
     }
 
-    /// Deletes so many cells at the cursor, and moves those behind them there.
+    /// Deletes `count` columns at the cursor, and moves the cells behind them there.
     pub(crate) fn delete_columns(&mut self, count: usize) {
         if let Some(shift) = self.shift_here() {
             shift.delete(count);
         }
     }
 
-    /// What is inserted and deleted at the cursor. Returns nothing where that isn't between the
-    /// margins.
+    /// The insertions and deletions at the cursor, or nothing where that is outside of the margins.
     fn shift_here(&mut self) -> Option<&mut Shift> {
         if !self.is_between_margins() {
             return None;
@@ -71,7 +69,7 @@ impl Emulator {
         }))
     }
 
-    /// Moves the cells that are inserted and deleted, before others are changed.
+    /// Makes pending insertions and deletions, before other cells are changed.
     #[inline]
     pub(crate) fn settle(&mut self) {
         if let Some(shift) = self.shift.take() {
@@ -92,7 +90,8 @@ impl Emulator {
         }
     }
 
-    /// Makes blanks of the cell of two columns whose second one is here: a blank was between them.
+    /// Makes blanks of a cell of two columns whose second one is at this place: an insertion has
+    /// split it, though the cells are back at their place.
     fn tear(&mut self, x: usize, y: usize) {
         self.make();
         let before = x.checked_sub(1).map(|x| self.surface.row(y).cell(x));
@@ -105,7 +104,7 @@ impl Emulator {
         }
     }
 
-    /// Prints a text of so many columns at a place, which the cursor isn't moved to.
+    /// Prints a text at a place. The cursor stays.
     pub(crate) fn print_at(
         &mut self,
         (x, y): (usize, usize),

@@ -2,7 +2,7 @@
 
 const DISTANCE: usize = 8;
 
-/// The columns where tabs stop: each eighth one, until a program sets others.
+/// The columns where tabs stop: every eighth one, until a program sets others.
 #[derive(Clone)]
 pub(crate) struct Tabs {
     stops: Vec<bool>,

@@ -1,8 +1,8 @@
 //! Characters, and the grapheme that was printed last.
 
 use tikeburo::{text_width, Widths};
-/// Whether a character is a grapheme by itself between others of which this is so, and has a column
-/// at least. Those that are left out are taken one at a time, with what stands before them.
+/// Whether a character is simple: between simple ones it is a grapheme by itself, of one column or
+/// two. Any other character is taken by itself, and may join the one before it.
 pub(crate) fn is_simple(character: char) -> bool {
     columns_of_simple(character).is_some()
 }
@@ -12,12 +12,12 @@ pub(crate) fn is_simple(character: char) -> bool {
 enum Columns {
     One,
     Two,
-    /// One or two, as the library says.
+    /// One or two: the library says which.
     OneOrTwo,
 }
 
 impl Columns {
-    /// The columns by these widths, where the library needn't be asked.
+    /// The columns by these widths, or nothing where the library has to say.
     #[inline]
     fn known(self, widths: Widths) -> Option<usize> {
         match (self, widths) {
@@ -82,7 +82,7 @@ pub(crate) struct Run {
 }
 
 impl Run {
-    /// So many characters of ASCII.
+    /// The run of a text of ASCII.
     #[inline]
     pub(crate) fn of_ascii(length: usize) -> Run {
         Run {
@@ -92,7 +92,7 @@ impl Run {
         }
     }
 
-    /// The longest run of at most so many columns at the beginning of a text.
+    /// The longest run at the beginning of a text that has room in `room` columns.
     pub(crate) fn new(text: &str, room: usize, widths: Widths) -> Run {
         if text.is_ascii() {
             return Run::of_ascii(text.len().min(room));
@@ -137,22 +137,22 @@ pub(crate) fn is_one_grapheme(text: &str) -> bool {
 /// The grapheme that was printed last.
 #[derive(Default)]
 pub(crate) struct Last {
-    /// It, where it isn't simple.
+    /// Its text, where it isn't simple.
     text: String,
-    /// The character that it is, where it is simple.
+    /// Its character, where it is simple.
     simple: Option<char>,
-    /// Whether nothing but texts has come since.
+    /// Whether only texts have come since.
     pub(crate) is_live: bool,
 }
 
 impl Last {
-    /// Is the last one of a text of simple characters.
+    /// Becomes the last character of a text of simple ones.
     #[inline]
     pub(crate) fn set_simple(&mut self, text: &str) {
         (self.simple, self.is_live) = (text.chars().next_back(), true);
     }
 
-    /// Is this one.
+    /// Becomes this grapheme.
     pub(crate) fn set(&mut self, grapheme: &str) {
         self.text.clear();
         self.text.push_str(grapheme);
@@ -172,7 +172,7 @@ impl Last {
         !self.is_live || self.simple.is_some()
     }
 
-    /// It with a text behind it, where both are one grapheme.
+    /// The grapheme with a text behind it, where both are one.
     pub(crate) fn joined(&self, text: &str) -> Option<String> {
         let joined = || [&self.text(), text].concat();
         let joined = self.is_live.then(joined)?;

@@ -25,7 +25,7 @@ pub(crate) enum Which {
 }
 
 impl Which {
-    /// The one of a parameter.
+    /// The titles that a parameter names.
     pub(crate) fn new(number: usize) -> Option<Which> {
         [Which::Both, Which::Icon, Which::Window]
             .get(number)
@@ -52,13 +52,13 @@ impl Titles {
         }
     }
 
-    /// Is empty, and has none saved.
+    /// Empties both, and drops those that are saved.
     pub(crate) fn reset(&mut self) {
         self.set(Which::Both, "");
         self.saved.clear();
     }
 
-    /// Whether the window's has changed since the last call.
+    /// Whether the window's title has changed since the last call.
     pub(crate) fn take_change(&mut self) -> bool {
         std::mem::take(&mut self.has_changed)
     }
@@ -71,7 +71,7 @@ impl Titles {
         self.saved.push(self.now.clone());
     }
 
-    /// Restores what was saved last, if anything is.
+    /// Restores the titles that were saved last, if there are any.
     pub(crate) fn restore(&mut self, which: Which) {
         if let Some(Pair { window, icon }) = self.saved.pop() {
             if which != Which::Icon {

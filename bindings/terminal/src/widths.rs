@@ -2,12 +2,12 @@
 
 use tikeburo::{Error, WidthRange, WidthTable, Widths};
 /// Widths as most programs assume them, which add up what the C library's `wcwidth` says of each
-/// character: a variation selector has no column, so that `☂` has one with it, too, and the two
-/// letters of a flag have one each. By Unicode, which [`Surface::new`](tikeburo::Surface::new) goes
-/// by, such a `☂` has two.
+/// character: a variation selector has no column, so that `☂` with one has a single column, and the
+/// two letters of a flag have one column each. By Unicode, as
+/// [`Terminal::new`](crate::Terminal::new) measures, such a `☂` has two.
 ///
-/// No cell has more than two columns. Where a program counts four for people that joiners join,
-/// the terminal has two, as by Unicode.
+/// No cell has more than two columns. Where a program counts four for two people that a joiner
+/// joins, the terminal has two, as by Unicode.
 ///
 /// ```
 /// use tikeburo_terminal::{wcwidth_widths, Terminal};
@@ -22,7 +22,7 @@ use tikeburo::{Error, WidthRange, WidthTable, Widths};
 ///
 /// # Errors
 ///
-/// None but what [`WidthTable::new`] has.
+/// Those of [`WidthTable::new`], which don't come for these ranges.
 pub fn wcwidth_widths() -> Result<Widths, Error> {
     WidthTable::new(&RANGES).map(Widths::Table)
 }

@@ -139,3 +139,36 @@ fn programs_count_the_columns_of_characters() {
     }
     assert_eq!(width(Widths::OneColumn, "か☂\u{fe0f}e\u{301}x"), 4);
 }
+
+/// The rows of a terminal of 6 columns and 3 rows, which is fed the parts.
+fn shown(keeps: bool, parts: &[&str]) -> Vec<String> {
+    let mut terminal = Terminal::new(6, 3).unwrap();
+    if keeps {
+        terminal.keep_scrollback(1000).unwrap();
+    }
+    for part in parts {
+        terminal.feed(part.as_bytes()).unwrap();
+    }
+    rows(&terminal)
+}
+
+#[test]
+fn rows_that_scroll_off_at_once_leave_what_they_set() {
+    let lines: String = (0..100).map(|number| format!("{number}\r\n")).collect();
+    let before = "abc\r\n\x1b[31mdef\x1b[2;2r\x1b[H\x1b[L\x1b[r\x1b[3H";
+    for keeps in [false, true] {
+        assert_eq!(shown(keeps, &[before, &lines]), ["98", "99", ""]);
+        assert_eq!(shown(keeps, &[&lines, "\x1b[H\x1b[Mx"]), ["x9", "", ""]);
+        assert_eq!(
+            shown(keeps, &[&(lines.clone() + "\x1b[H\x1b[2Lx")]),
+            ["x", "", "98"]
+        );
+        assert_eq!(
+            shown(keeps, &[&(lines.clone() + "\x1b[2Ja\x1b[Hb")]),
+            ["b", "", "a"]
+        );
+        assert_eq!(shown(keeps, &[&"\n".repeat(50), "x"]), ["", "", "x"]);
+        let wrapped = shown(keeps, &[&"abcdefgh".repeat(90)]);
+        assert_eq!(wrapped, ["ghabcd", "efghab", "cdefgh"]);
+    }
+}

@@ -75,6 +75,17 @@ fn a_wrap_waits_in_the_last_column() {
             ("abcdef\rg", &["gbcdef", "", ""], (1, 0)),
             ("abcdef\x1b[1;6Hg", &["abcdeg", "", ""], (6, 0)),
             ("abcdef\x1b[?7lg", &["abcdeg", "", ""], (6, 0)),
+            ("abcdef\tg", &["abcdef", "g", ""], (1, 1)),
+            ("abcdef\x1b[2Ig", &["abcdef", "g", ""], (1, 1)),
+            ("abcdef\x1b[@g", &["abcde", "g", ""], (1, 1)),
+            ("abcdef\x1b[Pg", &["abcde", "g", ""], (1, 1)),
+            ("abcdef\x0b\x0cg", &["", "", "g"], (1, 2)),
+            ("\r\nabcdef\x1bMg", &["", "gbcdef", ""], (1, 1)),
+            ("abcdef\x1bDg", &["abcdef", "", "g"], (1, 2)),
+            ("abcdef\x1b[Lg", &["g", "abcdef", ""], (1, 0)),
+            ("abcdef\x1b[Mg", &["g", "", ""], (1, 0)),
+            ("abcdef\x1b[Sg", &["", "g", ""], (1, 1)),
+            ("1\r\n2\r\nabcdef\ng", &["abcdef", "", "g"], (1, 2)),
             ("\x1b[3Habcdef\x1b[2Ag", &["     g", "", "abcdef"], (6, 0)),
         ],
     );
@@ -161,6 +172,33 @@ fn cells_and_rows_are_inserted_and_deleted() {
             ("1\r\n2\r\n3\x1b[S", &["2", "3", ""], (1, 2)),
             ("1\r\n2\r\n3\x1b[T", &["", "1", "2"], (1, 2)),
             ("1\r\n2\r\n3\x1b[65535T", &["", "", ""], (1, 2)),
+            // At one place, in any order.
+            (
+                "abcdef\x1b[1;2H\x1b[@\x1b[@\x1b[P",
+                &["a bcd", "", ""],
+                (1, 0),
+            ),
+            (
+                "abcdef\x1b[1;2H\x1b[2P\x1b[@\x1b[@",
+                &["a  def", "", ""],
+                (1, 0),
+            ),
+            ("abcdef\x1b[1;2H\x1b[9@\x1b[9P", &["a", "", ""], (1, 0)),
+            (
+                "abcdef\x1b[1;2H\x1b[@\x1b[3G\x1b[P",
+                &["a cde", "", ""],
+                (2, 0),
+            ),
+            ("かxyz\x1b[1;2H\x1b[@\x1b[P", &["  xyz", "", ""], (1, 0)),
+            ("abか字\x1b[1;2H\x1b[@\x1b[P", &["abか", "", ""], (1, 0)),
+            (
+                "abcdef\x1b[1;2H\x1b[@\x1b[2;1Hx",
+                &["a bcde", "x", ""],
+                (1, 1),
+            ),
+            ("abcdef\x1b[1;2H\x1b[@\x1b[Jx", &["ax", "", ""], (2, 0)),
+            ("abcdef\x1b[1;2H\x1b[@\x1b[2Jx", &[" x", "", ""], (2, 0)),
+            ("abcdef\x1b[1;2H\x1b[@\x1b[3S", &["", "", ""], (1, 0)),
             // Insert mode.
             ("abc\x1b[H\x1b[4hxy\x1b[4lz", &["xyzbc", "", ""], (3, 0)),
             ("abcdef\x1b[H\x1b[4hx", &["xabcde", "", ""], (1, 0)),
@@ -358,6 +396,18 @@ fn resets() {
             ),
             ("ab\x1b(0\x1b7\x1b[!pq\x1b8q", &["qbq", "", ""], (1, 0)),
             ("\x1b[2;3r\x1b#8", &["EEEEEE"; 3], (0, 0)),
+            (
+                "\x1b[2;3r\x1b[?6h\x1b#8\x1b[Hx",
+                &["xEEEEE", "EEEEEE", "EEEEEE"],
+                (1, 0),
+            ),
+            // Another width changes nothing, unless the switch is allowed.
+            ("ab\x1b[?3hc\x1b[?3ld", &["abcd", "", ""], (4, 0)),
+            (
+                "ab\x1b[2;3r\x1b[?40h\x1b[?3hc\x1b[3H\n",
+                &["", "", ""],
+                (0, 2),
+            ),
             (
                 "\x1b[2;3r\x1b#8\x1b[3H\n",
                 &["EEEEEE", "EEEEEE", ""],

@@ -8,6 +8,8 @@ use tikeburo::{Attributes, Changes, ColorAttribute, Error, Surface};
 const MOST_CHANGES: usize = 1024;
 const MOST_BYTES: usize = 1 << 16; // of texts
 
+const LINE_END: &str = "\r\n";
+
 /// A place that no cursor has.
 const NOWHERE: (usize, usize) = (usize::MAX, usize::MAX);
 
@@ -83,12 +85,29 @@ impl Batch {
         }
     }
 
+    /// Moves the cursor, where it isn't there: to the next row by a line end, which may be part of a
+    /// text, and else by a change of its own.
     #[inline]
     pub(crate) fn move_to(&mut self, x: usize, y: usize) {
+        if self.place == (x, y) {
+            return;
+        }
+        if x == 0 && self.place.1 < y && y - self.place.1 == 1 {
+            return self.end_line(LINE_END, (x, y));
+        }
+        self.changes.move_to(x, y);
+        (self.place, self.end) = ((x, y), End::Apart);
+    }
+
+    /// Moves the cursor to where a text with this pen is printed. Behind anything but a text the pen
+    /// comes first, so that a line end joins the text.
+    #[inline]
+    pub(crate) fn move_to_print(&mut self, (x, y): (usize, usize), pen: &Attributes) {
         if self.place != (x, y) {
-            self.changes.move_to(x, y);
-            self.place = (x, y);
-            self.end = End::Apart;
+            if self.end == End::Apart {
+                self.prepare_pen(pen);
+            }
+            self.move_to(x, y);
         }
     }
 
@@ -101,12 +120,17 @@ impl Batch {
         place: (usize, usize),
         is_simple: bool,
     ) {
+        self.prepare_pen(pen);
+        let end = if is_simple { End::Simple } else { End::Complex };
+        self.append(text, place, end);
+    }
+
+    #[inline]
+    fn prepare_pen(&mut self, pen: &Attributes) {
         if !self.has_pen {
             self.set_pen(pen);
             self.has_pen = true;
         }
-        let end = if is_simple { End::Simple } else { End::Complex };
-        self.append(text, place, end);
     }
 
     fn set_pen(&mut self, pen: &Attributes) {

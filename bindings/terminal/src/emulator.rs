@@ -149,6 +149,14 @@ impl Emulator {
         self.batch.move_to(self.surface_column(), self.cursor.y);
     }
 
+    /// Moves the surface's cursor to where a text is printed.
+    #[inline]
+    pub(crate) fn put_cursor_to_print(&mut self) {
+        self.settle();
+        let place = (self.surface_column(), self.cursor.y);
+        self.batch.move_to_print(place, &self.cursor.pen);
+    }
+
     /// The options that the surface was made with.
     pub(crate) fn options(&self) -> Options {
         Options::new().widths(self.surface.widths())

@@ -59,7 +59,7 @@ impl Emulator {
     fn print_wrapped(&mut self, text: &str, run: Run, end: usize) {
         let rows = (end - 1) / self.width;
         if run.is_ascii && self.wraps_alike() && self.feeds_alike(rows) {
-            self.put_cursor();
+            self.put_cursor_to_print();
             let y = (self.cursor.y + rows).min(self.height - 1);
             let scrolled = self.cursor.y + rows - y;
             self.put_to(text, end - rows * self.width, y, true);
@@ -125,7 +125,7 @@ impl Emulator {
     /// Prints a text of `columns`, which have room in the cursor's row.
     #[inline]
     fn put(&mut self, text: &str, columns: usize, is_simple: bool) {
-        self.put_cursor();
+        self.put_cursor_to_print();
         self.put_to(text, self.cursor.end() + columns, self.cursor.y, is_simple);
     }
 

@@ -16,6 +16,23 @@ pub(crate) struct Shift {
 }
 
 impl Shift {
+    fn new(x: usize, y: usize, right: usize, background: ColorAttribute) -> Shift {
+        Shift {
+            x,
+            y,
+            right,
+            inserted: 0,
+            kept: x..right,
+            background,
+        }
+    }
+
+    /// Whether both are at one place, and leave the same blanks.
+    fn is_like(&self, other: &Shift) -> bool {
+        (self.x, self.y, self.right) == (other.x, other.y, other.right)
+            && self.background == other.background
+    }
+
     fn room(&self) -> usize {
         self.right - self.x
     }
@@ -53,20 +70,16 @@ impl Emulator {
         if !self.is_between_margins() {
             return None;
         }
-        let (x, y, background) = (self.cursor.x, self.cursor.y, self.background());
-        let is_same = |it: &Shift| (it.x, it.y, it.background) == (x, y, background);
-        if !self.shift.as_ref().map_or(false, is_same) {
+        let new = Shift::new(
+            self.cursor.x,
+            self.cursor.y,
+            self.right_edge(),
+            self.background(),
+        );
+        if !self.shift.as_ref().map_or(false, |it| it.is_like(&new)) {
             self.settle();
         }
-        let right = self.right_edge();
-        Some(self.shift.get_or_insert(Shift {
-            x,
-            y,
-            right,
-            inserted: 0,
-            kept: x..right,
-            background,
-        }))
+        Some(self.shift.get_or_insert(new))
     }
 
     /// Makes pending insertions and deletions, before other cells are changed.
@@ -123,20 +136,9 @@ impl Emulator {
 mod tests {
     use super::*;
 
-    fn shift() -> Shift {
-        Shift {
-            x: 2,
-            y: 0,
-            right: 10,
-            inserted: 0,
-            kept: 2..10,
-            background: ColorAttribute::Default,
-        }
-    }
-
     #[test]
     fn insertions_and_deletions_add_up() {
-        let mut shift = shift();
+        let mut shift = Shift::new(2, 0, 10, ColorAttribute::Default);
         shift.insert(1);
         shift.insert(2);
         assert_eq!((shift.inserted, shift.kept.clone()), (3, 2..7));

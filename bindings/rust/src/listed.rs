@@ -4,6 +4,8 @@ use crate::attributes::{AttributeChange, Attributes, Hyperlink};
 use crate::change::{Change, Position};
 use crate::changes::Changes;
 use crate::ffi::{self, tk_change};
+use std::mem;
+use std::ops::Range;
 
 impl Changes {
     /// Its changes in order, each as a value of its own.
@@ -30,30 +32,36 @@ impl Changes {
         })
     }
 
-    /// Drops the first changes, at most all, and keeps the others in order: for whoever finds that
-    /// later changes leave nothing of what the first ones do.
+    /// Drops the changes of these ranges of indices, which rise and don't overlap, and keeps the
+    /// others in order: for whoever finds that later changes undo what these do. Indices past the
+    /// last change are passed over.
     ///
     /// ```
     /// use tikeburo::{Changes, ColorAttribute};
     ///
     /// let mut changes = Changes::new();
-    /// changes.title("old").text("gone");
-    /// let count = changes.len();
-    /// changes.clear_screen(ColorAttribute::Default).text("shown");
-    /// changes.remove_first(count);
+    /// changes.title("notes").text("gone").clear_screen(ColorAttribute::Default).text("shown");
+    /// changes.remove(&[1..2]);
     /// let mut wanted = Changes::new();
-    /// wanted.clear_screen(ColorAttribute::Default).text("shown");
+    /// wanted.title("notes").clear_screen(ColorAttribute::Default).text("shown");
     /// assert_eq!(changes, wanted);
     /// ```
-    pub fn remove_first(&mut self, count: usize) {
-        if count == 0 {
+    pub fn remove(&mut self, ranges: &[Range<usize>]) {
+        if ranges.is_empty() {
             return;
         }
-        let first = self.list.drain(..count.min(self.list.len()));
-        let lengths = first.filter(|change| has_text(change.kind));
-        let bytes: usize = lengths.map(|change| change.first).sum();
-        self.texts.drain(..bytes);
-        self.is_open &= !self.list.is_empty();
+        let (list, texts) = (mem::take(&mut self.list), mem::take(&mut self.texts));
+        let (mut at, mut text_at) = (0, 0);
+        for range in ranges.iter().chain([&(list.len()..list.len())]) {
+            let begin = range.start.clamp(at, list.len());
+            let end = range.end.clamp(begin, list.len());
+            let bytes = text_length(&list[at..begin]);
+            self.list.extend_from_slice(&list[at..begin]);
+            self.texts.push_str(&texts[text_at..text_at + bytes]);
+            text_at += bytes + text_length(&list[begin..end]);
+            at = end;
+        }
+        self.is_open = false;
         self.pen = None;
     }
 }
@@ -88,6 +96,12 @@ impl FromIterator<Change> for Changes {
         list.extend(changes);
         list
     }
+}
+
+/// How many bytes the texts of changes have.
+fn text_length(changes: &[tk_change]) -> usize {
+    let with_text = changes.iter().filter(|change| has_text(change.kind));
+    with_text.map(|change| change.first).sum()
 }
 
 /// Whether a change of this kind has a text.
@@ -177,6 +191,29 @@ mod tests {
     use crate::attributes::{Blink, Intensity, Underline};
     use crate::change::{CursorShape, CursorVisibility, LineAttribute};
     use crate::color::{ColorAttribute, RgbColor};
+
+    #[test]
+    fn changes_of_ranges_are_dropped_with_their_texts() {
+        let list = |texts: &[&str]| {
+            let mut changes = Changes::new();
+            for text in texts {
+                changes.text(text).move_to(0, 0);
+            }
+            changes
+        };
+        let all = list(&["a", "か", "c", "d"]);
+        for (ranges, wanted) in [
+            (&[][..], list(&["a", "か", "c", "d"])),
+            (&[0..2], list(&["か", "c", "d"])),
+            (&[2..4, 6..8], list(&["a", "c"])),
+            (&[0..0, 4..6, 9..12], list(&["a", "か", "d"])),
+            (&[0..99], list(&[])),
+        ] {
+            let mut changes = all.clone();
+            changes.remove(ranges);
+            assert_eq!(changes, wanted, "{ranges:?}");
+        }
+    }
 
     #[test]
     fn changes_are_read_as_they_were_appended() {

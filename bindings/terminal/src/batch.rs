@@ -1,5 +1,6 @@
 //! The changes that are still to be made.
 
+use crate::segments::Segments;
 use crate::skips::Skips;
 use crate::Scrollback;
 use std::ops::Range;
@@ -23,9 +24,12 @@ pub(crate) struct Batch {
     has_pen: bool,
     /// Whether the next change may become the first one of a list, and has to set the whole pen.
     begins_anew: bool,
+    /// Whether the pen that they leave is known to be the default one.
+    is_plain: bool,
     end: End,
     bytes: usize,
     skips: Skips,
+    segments: Segments,
 }
 
 /// What the last change is.
@@ -92,23 +96,29 @@ impl Batch {
         if self.place == (x, y) {
             return;
         }
-        if x == 0 && self.place.1 < y && y - self.place.1 == 1 {
+        if self.is_before(x, y) {
             return self.end_line(LINE_END, (x, y));
         }
+        self.segments
+            .begin((x, y), self.changes.len(), self.is_plain);
         self.changes.move_to(x, y);
         (self.place, self.end) = ((x, y), End::Apart);
     }
 
-    /// Moves the cursor to where a text with this pen is printed. Behind anything but a text the pen
-    /// comes first, so that a line end joins the text.
+    /// Moves the cursor to where a text with this pen is printed. Where a line end begins a text, the
+    /// pen comes first, so that both are one text.
     #[inline]
     pub(crate) fn move_to_print(&mut self, (x, y): (usize, usize), pen: &Attributes) {
-        if self.place != (x, y) {
-            if self.end == End::Apart {
-                self.prepare_pen(pen);
-            }
-            self.move_to(x, y);
+        if self.end == End::Apart && self.is_before(x, y) {
+            self.prepare_pen(pen);
         }
+        self.move_to(x, y);
+    }
+
+    /// Whether this place is the beginning of the row below the cursor's.
+    #[inline]
+    fn is_before(&self, x: usize, y: usize) -> bool {
+        x == 0 && self.place.1 < y && y - self.place.1 == 1
     }
 
     /// Prints a text with this pen, which leaves the cursor at this place.
@@ -134,17 +144,34 @@ impl Batch {
     }
 
     fn set_pen(&mut self, pen: &Attributes) {
+        let count = self.changes.len();
         if std::mem::take(&mut self.begins_anew) {
             self.changes.pen(pen);
         } else {
             self.changes.use_pen(pen);
+        }
+        if self.changes.len() > count {
+            self.is_plain =
+                pen.foreground == ColorAttribute::Default && *pen == Attributes::default();
         }
     }
 
     /// Prints a line end, which leaves the cursor at this place.
     #[inline]
     pub(crate) fn end_line(&mut self, line_end: &str, place: (usize, usize)) {
+        if place.1 == self.place.1 {
+            self.segments.scroll_all();
+        } else if self.end == End::Apart {
+            self.segments.end(self.changes.len(), self.is_plain);
+        } else {
+            self.segments.leave();
+        }
         self.append(line_end, place, End::Apart);
+    }
+
+    /// Notes that the next text goes on in other rows, and may scroll them.
+    pub(crate) fn leave_row(&mut self) {
+        self.segments.scroll_all();
     }
 
     #[inline]
@@ -165,12 +192,13 @@ impl Batch {
     /// Lets the next changes stand by themselves: they set their own place and pen.
     fn begin_anew(&mut self) {
         (self.place, self.end) = (NOWHERE, End::Apart);
-        (self.has_pen, self.begins_anew) = (false, true);
+        (self.has_pen, self.begins_anew, self.is_plain) = (false, true, false);
     }
 
     pub(crate) fn scroll(&mut self, rows: Range<usize>, count: usize, is_up: bool) {
         self.end = End::Apart;
         self.skips.clear();
+        self.segments.scroll(&rows);
         if is_up {
             self.changes.scroll_up(rows.start, rows.len(), count);
         } else {
@@ -193,6 +221,8 @@ impl Batch {
         (self.has_pen, self.end) = (false, End::Apart);
         if columns.end == width {
             self.begins_anew = false;
+            self.is_plain = background == ColorAttribute::Default;
+            self.segments.clear_row();
             self.changes.clear_to_end_of_line(background);
         } else {
             self.set_pen(&Attributes {
@@ -209,6 +239,8 @@ impl Batch {
     pub(crate) fn erase_below(&mut self, x: usize, y: usize, background: ColorAttribute) {
         self.move_to(x, y);
         (self.has_pen, self.begins_anew) = (false, false);
+        self.is_plain = background == ColorAttribute::Default;
+        self.segments.leave();
         self.changes.clear_to_end_of_screen(background);
         self.end = End::Apart;
     }
@@ -217,6 +249,7 @@ impl Batch {
     pub(crate) fn drop_all(&mut self) {
         self.changes.clear();
         self.skips.clear();
+        self.segments.clear();
         self.bytes = 0;
         self.begin_anew();
     }
@@ -237,15 +270,23 @@ impl Batch {
         if self.changes.is_empty() {
             return Ok(());
         }
+        let skipped = if scrollback.is_some() {
+            0
+        } else {
+            self.skips.count(height)
+        };
+        let undone = self.segments.undone_behind(skipped);
+        if skipped > 0 || !undone.is_empty() {
+            self.changes.remove(&[&[0..skipped], undone].concat());
+        }
         let made = match scrollback {
             Some(scrollback) => scrollback.make(surface, &self.changes),
-            None => {
-                self.changes.remove_first(self.skips.count(height));
-                surface.add(&self.changes).map(drop)
-            }
+            None => surface.add(&self.changes).map(drop),
         };
         self.changes.clear();
         self.skips.clear();
+        self.segments.clear();
+        self.is_plain = false;
         (self.bytes, self.end) = (0, End::Apart);
         if made.is_err() {
             self.start_from(surface);

@@ -48,6 +48,7 @@ mod print;
 mod reflow;
 mod reports;
 mod screens;
+mod segments;
 mod sequences;
 mod settings;
 mod shift;

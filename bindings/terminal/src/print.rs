@@ -60,6 +60,7 @@ impl Emulator {
         let rows = (end - 1) / self.width;
         if run.is_ascii && self.wraps_alike() && self.feeds_alike(rows) {
             self.put_cursor_to_print();
+            self.batch.leave_row();
             let y = (self.cursor.y + rows).min(self.height - 1);
             let scrolled = self.cursor.y + rows - y;
             self.put_to(text, end - rows * self.width, y, true);

@@ -90,30 +90,40 @@ impl Emulator {
         }
     }
 
+    /// Moves the cells that are kept, and clears the columns beside them.
     fn make_shift(&mut self, shift: &Shift) {
+        self.make();
         let Shift { x, y, right, .. } = *shift;
         let (begin, kept) = (x + shift.inserted, shift.kept.clone());
-        if begin == kept.start {
-            self.tear(x, y);
-        } else if !kept.is_empty() {
-            self.draw_region((kept.start, y), (kept.len(), 1), (begin, y));
+        let end = begin + kept.len();
+        let first = self.cut_cell(kept.start.checked_sub(1), y);
+        let last = self.cut_cell(kept.end.checked_sub(1).filter(|_| !kept.is_empty()), y);
+        let whole =
+            kept.start + usize::from(first.is_some())..kept.end - usize::from(last.is_some());
+        if begin != kept.start && !whole.is_empty() {
+            let to = begin + whole.start - kept.start;
+            self.draw_region((whole.start, y), (whole.len(), 1), (to, y));
         }
-        for columns in [x..begin, begin + kept.len()..right] {
+        let first = first.filter(|_| !kept.is_empty()).map(|pen| (begin, pen));
+        let last = last.map(|pen| (end - 1, pen));
+        for (column, pen) in first.into_iter().chain(last) {
+            self.print_at((column, y), " ", 1, &pen);
+        }
+        for columns in [x..begin, end..right] {
             self.batch.erase(y, columns, self.width, shift.background);
         }
     }
 
-    /// Makes blanks of a cell of two columns whose second one is at this place: an insertion has
-    /// split it, though the cells are back at their place.
-    fn tear(&mut self, x: usize, y: usize) {
-        self.make();
-        let before = x.checked_sub(1).map(|x| self.surface.row(y).cell(x));
-        let wide = match before.transpose() {
-            Ok(cell) => cell.filter(|cell| cell.width() == 2),
-            Err(error) => return self.attempt(Err(error)),
-        };
-        if let Some(cell) = wide {
-            self.print_at((x - 1, y), "  ", 2, cell.attrs());
+    /// The attributes of the cell of two columns that begins at a column, if there is one: its
+    /// columns are separated, and become blanks.
+    fn cut_cell(&mut self, column: Option<usize>, y: usize) -> Option<Attributes> {
+        match self.surface.row(y).cell(column?) {
+            Ok(cell) if cell.width() == 2 => Some(cell.attrs().clone()),
+            Ok(_) => None,
+            Err(error) => {
+                self.attempt(Err(error));
+                None
+            }
         }
     }
 

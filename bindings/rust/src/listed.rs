@@ -50,17 +50,21 @@ impl Changes {
         if ranges.is_empty() {
             return;
         }
-        let (list, texts) = (mem::take(&mut self.list), mem::take(&mut self.texts));
-        let (mut at, mut text_at) = (0, 0);
-        for range in ranges.iter().chain([&(list.len()..list.len())]) {
-            let begin = range.start.clamp(at, list.len());
-            let end = range.end.clamp(begin, list.len());
-            let bytes = text_length(&list[at..begin]);
-            self.list.extend_from_slice(&list[at..begin]);
+        let len = self.list.len();
+        let texts = mem::take(&mut self.texts);
+        self.texts.reserve(texts.len());
+        let (mut at, mut text_at, mut kept) = (0, 0, 0);
+        for range in ranges.iter().chain([&(len..len)]) {
+            let begin = range.start.clamp(at, len);
+            let end = range.end.clamp(begin, len);
+            let bytes = text_length(&self.list[at..begin]);
             self.texts.push_str(&texts[text_at..text_at + bytes]);
-            text_at += bytes + text_length(&list[begin..end]);
+            text_at += bytes + text_length(&self.list[begin..end]);
+            self.list.copy_within(at..begin, kept);
+            kept += begin - at;
             at = end;
         }
+        self.list.truncate(kept);
         self.is_open = false;
         self.pen = None;
     }

@@ -4,7 +4,7 @@ use crate::edit::Part;
 use crate::emulator::Emulator;
 use crate::params::{Marks, Params};
 use crate::titles::Which;
-use tikeburo::{CursorShape, Hyperlink};
+use tikeburo::{Attributes, CursorShape, Hyperlink};
 
 impl Emulator {
     /// Does what a `CSI` says, which has these parameters and marks and ends with this byte.
@@ -34,10 +34,20 @@ impl Emulator {
 
     fn set_attributes(&mut self, params: &Params) {
         match params.plain() {
+            Some([0]) => self.reset_attributes(),
             Some(numbers) => self.cursor.pen.apply_sgr(numbers.chunks(1)),
             None => self.cursor.pen.apply_sgr(params.iter()),
         }
         self.batch.change_pen();
+    }
+
+    /// Resets all attributes but the link, as most sequences of this kind do.
+    fn reset_attributes(&mut self) {
+        let hyperlink = self.cursor.pen.hyperlink.take();
+        self.cursor.pen = Attributes {
+            hyperlink,
+            ..Attributes::default()
+        };
     }
 
     /// Does what an escape sequence says, which has this intermediate byte, or 0, and ends with

@@ -6,7 +6,7 @@ use crate::Scrollback;
 use std::ops::Range;
 use tikeburo::{Attributes, Changes, ColorAttribute, Error, Surface};
 
-const MOST_CHANGES: usize = 1024;
+const MOST_CHANGES: usize = 4096;
 const MOST_BYTES: usize = 1 << 16; // of texts
 
 const LINE_END: &str = "\r\n";

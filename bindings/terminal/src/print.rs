@@ -20,24 +20,33 @@ impl Emulator {
         }
     }
 
-    /// Prints simple characters at once, and others one at a time.
+    /// Prints simple characters at once, as many as have room, and others one at a time.
     fn print_graphemes(&mut self, text: &str) {
         let mut rest = text;
-        while !rest.is_empty() {
-            if self.last.is_apart_from_simple() {
-                let run = Run::new(rest, usize::MAX, self.surface.widths());
-                if run.length > 0 {
-                    self.print_simple(&rest[..run.length], run);
-                    rest = &rest[run.length..];
-                    continue;
-                }
+        while let Some(first) = rest.chars().next() {
+            if !self.last.is_apart_from_simple() || !is_simple(first) {
+                let (character, behind) = rest.split_at(first.len_utf8());
+                self.print_character(first, character);
+                rest = behind;
+                continue;
             }
-            let mut behind = rest.chars();
-            if let Some(first) = behind.next() {
-                self.print_character(first, &rest[..first.len_utf8()]);
+            let run = self.next_run(rest);
+            if run.length > 0 {
+                self.print_simple(&rest[..run.length], run);
+                rest = &rest[run.length..];
+            } else if !self.make_room(self.columns_of(&rest[..first.len_utf8()])) {
+                rest = &rest[first.len_utf8()..];
             }
-            rest = behind.as_str();
         }
+    }
+
+    /// The run of simple characters at the beginning of a text that is printed next: the one that
+    /// has room in the row, or a whole one, where the library has to measure it.
+    fn next_run(&self, text: &str) -> Run {
+        let widths = self.surface.widths();
+        let is_whole = matches!(widths, Widths::Table(_)) || text.is_ascii();
+        let room = self.right_edge() - self.cursor.end();
+        Run::new(text, if is_whole { usize::MAX } else { room }, widths)
     }
 
     /// Prints a text of simple characters, which is this run and isn't empty.

@@ -28,8 +28,18 @@ impl Columns {
     }
 }
 
+/// The columns of a simple character. Those that are most frequent are found in few steps.
 #[inline]
 fn columns_of_simple(character: char) -> Option<Columns> {
+    match character {
+        ' '..='~' => Some(Columns::One),
+        '\u{3041}'..='\u{3096}' | '\u{4e00}'..='\u{9fff}' => Some(Columns::Two),
+        '\u{2200}'..='\u{22ff}' | '\u{2500}'..='\u{25fc}' => Some(Columns::One),
+        _ => columns_of_any(character),
+    }
+}
+
+fn columns_of_any(character: char) -> Option<Columns> {
     Some(match character {
         ' '..='~'
         | '\u{a0}'..='\u{ac}'

@@ -23,12 +23,12 @@
 //!
 //! A string of `OSC` has 1,023 bytes at most. A longer title is cut, and a longer link is none.
 //!
-//! # Rows that are never shown
+//! # What is never shown
 //!
-//! [`Terminal::feed`] makes the changes of the surface that its bytes lead to, and no others: where
-//! no [scrollback](Terminal::keep_scrollback) keeps the rows, it leaves out texts that scroll off,
-//! or that a clear of the whole screen removes, before it returns. Large chunks of a long output so
-//! take less than small ones.
+//! [`Terminal::feed`] makes the changes that its bytes lead to, and leaves out others: those whose
+//! texts scroll off before it returns, where no [scrollback](Terminal::keep_scrollback) keeps them,
+//! those that a clear of the whole screen removes, and those of a row's end that is written again.
+//! Large chunks of a long output so take less than small ones.
 #![deny(missing_docs)]
 #![forbid(unsafe_code)]
 #![warn(clippy::missing_errors_doc, clippy::must_use_candidate)]

@@ -8,7 +8,8 @@ use tikeburo::{text_width, Attributes, Cell, Error, Widths};
 const LONGEST_GRAPHEME: usize = 128;
 
 impl Emulator {
-    /// Prints a text without control characters of ASCII, and says whether it is ASCII.
+    /// Prints a text that has no control characters of ASCII. `is_ascii` says whether all of it is
+    /// ASCII.
     pub(crate) fn print_text(&mut self, text: &str, is_ascii: bool) {
         let is_plain = self.cursor.charsets.is_ascii();
         if is_ascii && is_plain && self.last.is_apart_from_simple() {

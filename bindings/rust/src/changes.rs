@@ -123,6 +123,7 @@ impl Changes {
     /// assert_eq!(surface.cursor_position(), (4, 0));
     /// # Ok::<(), Error>(())
     /// ```
+    #[inline]
     pub fn append(&mut self, text: &str) -> &mut Changes {
         match self.list.last_mut() {
             Some(last) if self.is_open => {

@@ -26,6 +26,8 @@ pub(crate) struct Batch {
     begins_anew: bool,
     /// Whether the pen that they leave is known to be the default one.
     is_plain: bool,
+    /// Whether that of coming texts is.
+    is_pen_plain: bool,
     end: End,
     bytes: usize,
     skips: Skips,
@@ -78,7 +80,13 @@ impl Batch {
     /// Notes that the pen of coming texts may differ from the surface's.
     #[inline]
     pub(crate) fn change_pen(&mut self) {
-        self.has_pen = false;
+        (self.has_pen, self.is_pen_plain) = (false, false);
+    }
+
+    /// Notes that the pen of coming texts is the default one.
+    #[inline]
+    pub(crate) fn reset_pen(&mut self) {
+        (self.has_pen, self.is_pen_plain) = (false, true);
     }
 
     /// Keeps the next text from joining the last one, where a character of either might do so.
@@ -151,8 +159,7 @@ impl Batch {
             self.changes.use_pen(pen);
         }
         if self.changes.len() > count {
-            self.is_plain =
-                pen.foreground == ColorAttribute::Default && *pen == Attributes::default();
+            self.is_plain = self.is_pen_plain;
         }
     }
 
@@ -161,8 +168,6 @@ impl Batch {
     pub(crate) fn end_line(&mut self, line_end: &str, place: (usize, usize)) {
         if place.1 == self.place.1 {
             self.segments.scroll_all();
-        } else if self.end == End::Apart {
-            self.segments.end(self.changes.len(), self.is_plain);
         } else {
             self.segments.leave();
         }
@@ -229,6 +234,7 @@ impl Batch {
                 background,
                 ..Attributes::default()
             });
+            self.is_plain = false;
             self.changes.clear_columns(columns.len(), background);
             self.place.0 = columns.end;
             self.bytes += columns.len();

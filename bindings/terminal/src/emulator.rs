@@ -150,7 +150,7 @@ impl Emulator {
     }
 
     /// Moves the surface's cursor to where a text is printed.
-    #[inline]
+    #[inline(always)]
     pub(crate) fn put_cursor_to_print(&mut self) {
         self.settle();
         let place = (self.surface_column(), self.cursor.y);

@@ -14,8 +14,8 @@ struct Segment {
     begins_plain: bool,
 }
 
-/// A segment that later ones may undo: as it begins and ends with the default pen, the changes
-/// behind it don't depend on it.
+/// A segment that later ones may undo: as it begins and ends with the default pen, and a move
+/// follows it, the changes behind it don't depend on it.
 struct Written {
     x: usize,
     y: usize,
@@ -31,7 +31,7 @@ pub(crate) struct Segments {
 }
 
 impl Segments {
-    /// Begins a segment at a place, with the change of this index.
+    /// Begins a segment at a place, with the move of this index, which ends the one before.
     pub(crate) fn begin(&mut self, (x, y): (usize, usize), begin: usize, is_plain: bool) {
         self.end(begin, is_plain);
         self.current = Some(Segment {
@@ -42,8 +42,7 @@ impl Segments {
         });
     }
 
-    /// Ends a segment before the change of this index.
-    pub(crate) fn end(&mut self, end: usize, is_plain: bool) {
+    fn end(&mut self, end: usize, is_plain: bool) {
         let Some(Segment {
             x,
             y,
@@ -63,7 +62,7 @@ impl Segments {
         }
     }
 
-    /// Forgets the segment that has begun: its changes write to other rows, too.
+    /// Forgets the segment that has begun: what follows depends on it, or writes to other rows.
     pub(crate) fn leave(&mut self) {
         self.current = None;
     }

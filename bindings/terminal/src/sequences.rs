@@ -34,7 +34,7 @@ impl Emulator {
 
     fn set_attributes(&mut self, params: &Params) {
         match params.plain() {
-            Some([0]) => self.reset_attributes(),
+            Some([0]) => return self.reset_attributes(),
             Some(numbers) => self.cursor.pen.apply_sgr(numbers.chunks(1)),
             None => self.cursor.pen.apply_sgr(params.iter()),
         }
@@ -44,6 +44,11 @@ impl Emulator {
     /// Resets all attributes but the link, as most sequences of this kind do.
     fn reset_attributes(&mut self) {
         let hyperlink = self.cursor.pen.hyperlink.take();
+        if hyperlink.is_none() {
+            self.batch.reset_pen();
+        } else {
+            self.batch.change_pen();
+        }
         self.cursor.pen = Attributes {
             hyperlink,
             ..Attributes::default()

@@ -156,6 +156,63 @@ fn clears() {
 }
 
 #[test]
+fn rows_are_written_again() {
+    check(
+        SIZE,
+        &[
+            (
+                "\x1b[Hab\x1b[K\x1b[Hcd\x1b[K\x1b[He\x1b[K",
+                &["e", "", ""],
+                (1, 0),
+            ),
+            (
+                "\x1b[2Habc\x1b[K\x1b[Hx\x1b[K\x1b[2Hde\x1b[K",
+                &["x", "de", ""],
+                (2, 1),
+            ),
+            ("\x1b[2Habc\x1b[K\x1b[2;2Hd\x1b[K", &["", "ad", ""], (2, 1)),
+            ("\x1b[2;2Habc\x1b[K\x1b[2Hd\x1b[K", &["", "d", ""], (1, 1)),
+            // The first row is moved in between, and the last one isn't.
+            (
+                "\x1b[Hab\x1b[K\x1b[3Hcd\x1b[K\x1b[1;2r\x1b[T\x1b[He\x1b[K\x1b[3Hf\x1b[K",
+                &["e", "ab", "f"],
+                (1, 2),
+            ),
+            // A text goes on in the next row.
+            (
+                "\x1b[2;4Habcd\x1b[K\x1b[2;4He\x1b[K",
+                &["", "   e", "d"],
+                (4, 1),
+            ),
+            // A text that goes on below depends on the row above.
+            (
+                "\x1b[1;6H\x1b[J\x1b[H\x1b[K\neck\x1b[H\x1b[K",
+                &["", "eck", ""],
+                (0, 0),
+            ),
+            // A half of a wide cell is written over.
+            (
+                "かxy\x1b[H\x1b[2Gab\x1b[K\x1b[2Gc\x1b[K",
+                &[" c", "", ""],
+                (2, 0),
+            ),
+        ],
+    );
+    let bytes = "\x1b[m\x1b[H\x1b[31mab\x1b[m\x1b[K\x1b[2H\x1b[32mc\x1b[K\x1b[Hd\x1b[K\x1b[2He";
+    let terminal = fed_however(SIZE, bytes);
+    let green = Attributes {
+        foreground: ColorAttribute::PaletteIndex(2),
+        ..Attributes::default()
+    };
+    let pens = [(0, 0), (1, 0), (0, 1)].map(|(x, y)| attributes(&terminal, x, y));
+    assert_eq!(
+        pens,
+        [&green, &Attributes::default(), &green].map(Clone::clone)
+    );
+    assert_eq!(rows(&terminal), ["d", "e", ""]);
+}
+
+#[test]
 fn cells_and_rows_are_inserted_and_deleted() {
     check(
         SIZE,

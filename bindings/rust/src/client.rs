@@ -9,6 +9,9 @@ use crate::screen::Screen;
 use crate::widths::Widths;
 use std::ops::Deref;
 
+/// The version of the stream's form.
+const VERSION: u64 = 2;
+
 /// What a client asks of the surface whose answers it is fed: bytes, which can go over any
 /// connection.
 #[derive(Clone, PartialEq, Eq, Hash, Debug)]
@@ -17,14 +20,58 @@ pub struct Ask {
 }
 
 impl Ask {
-    /// The ask of who shows what this number names of a surface, by the number of that.
-    pub(crate) fn new(source: u64, number: u64) -> Ask {
+    /// The ask of a client that shows this number of this source. Of no source, 0, the number is 0
+    /// too: [`Surface::respond`](crate::Surface::respond) refuses any other.
+    ///
+    /// ```
+    /// use tikeburo::Ask;
+    ///
+    /// let ask = Ask::new(1, 500);
+    /// assert_eq!(ask.as_bytes(), [0x83, 2, 1, 0x19, 0x01, 0xf4]);
+    /// assert_eq!((ask.source()?, ask.number()?), (1, 500));
+    /// # Ok::<(), tikeburo::Error>(())
+    /// ```
+    #[must_use]
+    pub fn new(source: u64, number: u64) -> Ask {
         let mut bytes = Vec::new();
         head::put(&mut bytes, ARRAY, 3);
-        for value in [2, source, number] {
+        for value in [VERSION, source, number] {
             head::put(&mut bytes, UNSIGNED, value);
         }
         Ask { bytes }
+    }
+
+    /// Which source the client shows, by its number as a source, or 0 where it shows nothing yet.
+    ///
+    /// # Errors
+    ///
+    /// [`Error::Truncated`]: the bytes end before the ask does. [`Error::Unreadable`]: they are
+    /// wrong at a byte, or more follow the ask.
+    pub fn source(&self) -> Result<u64, Error> {
+        self.parts().map(|(source, _)| source)
+    }
+
+    /// The number of its screen, from which an answer leads on.
+    ///
+    /// # Errors
+    ///
+    /// Those of [`Ask::source`].
+    pub fn number(&self) -> Result<u64, Error> {
+        self.parts().map(|(_, number)| number)
+    }
+
+    fn parts(&self) -> Result<(u64, u64), Error> {
+        let mut rest = &self.bytes[..];
+        if head::take(&mut rest, ARRAY)? != 3 || head::take(&mut rest, UNSIGNED)? != VERSION {
+            return Err(Error::Unreadable);
+        }
+        let source = head::take(&mut rest, UNSIGNED)?;
+        let number = head::take(&mut rest, UNSIGNED)?;
+        match (source, number) {
+            (0, 1..) => Err(Error::Unreadable),
+            _ if !rest.is_empty() => Err(Error::Unreadable),
+            parts => Ok(parts),
+        }
     }
 
     /// Its bytes: one ask of `docs/stream.cddl`, 20 at most.

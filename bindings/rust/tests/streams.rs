@@ -307,3 +307,53 @@ fn who_lacks_nothing_asks_what_is_current() {
     let other = Surface::new(6, 3).unwrap();
     assert_ne!(client.ask().unwrap(), other.current_ask());
 }
+
+// The second is hand-made of the numbers in RFC 8949, appendix A.
+const ASKS: [(u64, u64, &[u8]); 3] = [
+    (0, 0, &[0x83, 2, 0, 0]),
+    (
+        1_000_000,
+        1_000_000_000_000,
+        &[
+            0x83, 2, 0x1a, 0, 0x0f, 0x42, 0x40, 0x1b, 0, 0, 0, 0xe8, 0xd4, 0xa5, 0x10, 0,
+        ],
+    ),
+    (23, 1000, &[0x83, 2, 0x17, 0x19, 0x03, 0xe8]),
+];
+
+#[test]
+fn an_ask_has_a_source_and_a_number() {
+    for (source, number, bytes) in ASKS {
+        assert_eq!(Ask::new(source, number).as_bytes(), bytes);
+        let ask = Ask::from(bytes);
+        assert_eq!((ask.source(), ask.number()), (Ok(source), Ok(number)));
+    }
+    let mut surface = Surface::new(4, 1).unwrap();
+    surface.add_change("a").unwrap();
+    let head = AnswerHead::read(&surface.respond(&Ask::default()).unwrap()).unwrap();
+    let ask = surface.current_ask();
+    assert_eq!(ask.source(), Ok(head.source));
+    assert_eq!(ask.number(), Ok(head.number as u64));
+}
+
+#[test]
+fn what_is_no_ask_is_refused_as_a_surface_refuses_it() {
+    let mut surface = Surface::new(4, 1).unwrap();
+    let mut judge = |bytes: &[u8]| {
+        let ask = Ask::from(bytes);
+        let refused = surface.respond(&ask).err();
+        assert_eq!(ask.source().err(), refused, "{bytes:?}");
+        assert_eq!(ask.number().err(), refused, "{bytes:?}");
+    };
+    for (_, _, bytes) in ASKS {
+        (0..bytes.len()).for_each(|len| judge(&bytes[..len]));
+        judge(&[bytes, &[0]].concat());
+        for at in 0..bytes.len() {
+            for byte in 0..=255 {
+                let mut other = bytes.to_vec();
+                other[at] = byte;
+                judge(&other);
+            }
+        }
+    }
+}

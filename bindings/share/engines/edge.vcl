@@ -16,6 +16,9 @@ sub vcl_recv {
     }
     unset req.http.cookie;
     unset req.http.authorization;
+    if (req.url ~ "/stream(\?.*)?$") {
+        return (synth(404)); # a stream without an end would be one of the server for each viewer
+    }
     if (req.url !~ "^(/[0-9A-Za-z_-]+)?/stream/[0-9]{1,20}/[0-9]{1,20}(\?.*)?$") {
         return (pass); # the page
     }
@@ -48,4 +51,9 @@ sub vcl_backend_response {
     }
     set beresp.uncacheable = false;
     return (deliver);
+}
+
+sub vcl_backend_error {
+    set beresp.ttl = 1s; # a server that doesn't answer isn't asked once for each viewer, either
+    set beresp.grace = 0s;
 }

@@ -1,70 +1,27 @@
 // The program `share`, as it is used: `SHARE=PROGRAM node --test share.mjs`. It runs in a window of
 // `script`, whose size is set by `stty`.
 import assert from 'node:assert/strict';
-import { execFileSync, spawn } from 'node:child_process';
+import { spawn } from 'node:child_process';
 import { once } from 'node:events';
-import { mkdtempSync, readFileSync, rmSync } from 'node:fs';
+import { readFileSync } from 'node:fs';
 import { connect } from 'node:net';
-import { tmpdir } from 'node:os';
 import { join } from 'node:path';
 import test, { after, before } from 'node:test';
-import { fileURLToPath } from 'node:url';
 import { Chromium, findChromium } from '../../js/test/chromium.mjs';
 import { randomFrom } from '../../js/test/random.mjs';
 import { Player, readRecording } from '../../js/recording.mjs';
 import { Client, styleOf } from '../../js/tikeburo.mjs';
 import { contentsOf, follow } from './follow.mjs';
+import { here, makeFolder, removeFolder, Shared, until } from './shared.mjs';
 
 const CLIENTS = 200;
-const here = name => fileURLToPath(new URL(name, import.meta.url));
-const folder = mkdtempSync(join(tmpdir(), 'share-'));
+const folder = makeFolder(), record = join(folder, 'record');
 const program = findChromium();
-const pause = milliseconds => new Promise(done => setTimeout(done, milliseconds));
-
-async function until(holds, what) {
-    for (let left = 500; !await holds(); left--) {
-        assert.ok(left, `still not: ${what}`);
-        await pause(20);
-    }
-}
-
-/** `share` in a window. What is sent to it are its user's keys. */
-class Shared {
-    output = '';
-    requests = 0; // of the page, since it is hidden
-
-    constructor(...words) {
-        const [tty, record] = [join(folder, 'tty'), join(folder, 'record')];
-        Object.assign(this, { tty, record });
-        const command = [process.env.SHARE, '--record', record, ...words].join(' ');
-        const line = `stty cols 80 rows 24; tty >${tty}; exec ${command}`;
-        this.process = spawn('script', ['-qefc', line, '/dev/null']);
-        this.process.stdout.on('data', data => this.output += data);
-        this.ended = once(this.process, 'exit');
-    }
-
-    async start() {
-        await until(() => this.output.includes('Press Enter'), 'an address');
-        const [, address] = /(http:\S+)\?pull/.exec(this.output);
-        this.address = address;
-        this.stream = `${address}stream`;
-        this.port = Number(new URL(address).port);
-        this.press('\r');
-    }
-
-    press(keys) {
-        this.process.stdin.write(keys);
-    }
-
-    resize(width, height) {
-        const tty = readFileSync(this.tty, 'utf8').trim();
-        execFileSync('stty', ['-F', tty, 'cols', String(width), 'rows', String(height)]);
-    }
-}
-
-const shared = new Shared('--', process.execPath, here('painter.mjs'));
+const painter = ['--', process.execPath, here('painter.mjs')];
+const shared = Shared.inWindow(folder, ['--record', record, ...painter]);
 const early = new Client(), streamed = new Client();
 let stream = null, browser = null, page = null, stopped = null;
+let requests = 0; // of the page, since it is hidden
 
 /** Another process that follows, and what it prints at the end. */
 function followElsewhere() {
@@ -89,12 +46,14 @@ const hasSize = (width, height) => ({ screen }) => screen.title === `${width} by
 
 before(async () => {
     await shared.start();
+    await until(() => shared.output.includes('Press Enter'), 'what to press');
+    shared.press('\r');
     if (program) browser = new Chromium(program);
 });
 after(async () => {
     await browser?.close();
     shared.process.kill();
-    rmSync(folder, { recursive: true });
+    removeFolder(folder);
 });
 
 // What a terminal of 50 columns and 14 rows shows of what the painter writes.
@@ -146,54 +105,33 @@ test('colours, wide texts and emoji, in three sizes', { timeout: 20000 }, async 
     judge(early.screen);
 });
 
-/** The head that comes back for these bytes, or nothing after a while. */
-function sendRaw(milliseconds, ...parts) {
-    return new Promise(done => {
-        const socket = connect(shared.port, '127.0.0.1');
-        let text = '';
-        const end = () => {
-            socket.destroy();
-            done(text);
-        };
-        socket.on('error', end).on('close', end).setEncoding('latin1').on('data', data => {
-            text += data;
-            if (text.includes('\r\n\r\n')) end();
-        });
-        parts.forEach(part => socket.write(part));
-        setTimeout(end, milliseconds).unref();
-    });
-}
-
 const statusOf = response => Number(/^HTTP\/1.1 (\d+) /.exec(response)?.[1]);
-const post = (path, length) =>
-    `POST ${path} HTTP/1.1\r\nhost: a\r\ncontent-length: ${length}\r\n\r\n`;
 
 test('what others send changes nothing', { timeout: 20000 }, async () => {
-    const { pathname } = new URL(shared.stream), random = randomFrom(58);
+    const { pathname, host } = new URL(shared.stream), random = randomFrom(58);
     const bytes = Buffer.from(Array.from({ length: 1 << 17 }, () => random(256)));
     const noise = length => bytes.subarray(random(1 << 16)).subarray(0, length);
     const wrong = pathname.replace(/[0-9a-f]/, digit => (digit === '0' ? '1' : '0'));
     const statuses = async (wanted, ...parts) =>
-        assert.equal(statusOf(await sendRaw(10000, ...parts)), wanted, `${parts[0]}`.slice(0, 60));
-    const ends = ' HTTP/1.1\r\nconnection: close\r\n\r\n';
+        assert.equal(statusOf(await shared.send(10000, ...parts)), wanted, `${parts[0]}`);
+    const get = (path, name = host) => `GET ${path} HTTP/1.1\r\nhost: ${name}\r\n\r\n`;
+    const post = length => shared.head('POST', 'stream', `content-length: ${length}\r\n`);
     await Promise.all([
-        statuses(404, `GET /${ends}`),
-        statuses(404, `GET /stream${ends}`),
-        statuses(404, `GET ${wrong}${ends}`),
-        statuses(404, `GET ${pathname.slice(0, -8)}/stream${ends}`),
-        statuses(404, post(wrong, early.ask().length), early.ask()),
-        statuses(404, `PUT ${pathname}${ends}`),
-        statuses(404, `GET ${pathname}/../../etc/passwd${ends}`),
-        statuses(400, post(pathname, 20), noise(20)),
-        statuses(400, post(pathname, 0)),
-        statuses(400, post(pathname, 3), early.ask().subarray(0, 3)),
-        statuses(400, post(pathname, 1e9)),
-        statuses(400, post(pathname, 'x')),
-        statuses(400, `POST ${pathname} HTTP/1.1\r\ntransfer-encoding: chunked\r\n\r\n`),
+        statuses(404, get('/')),
+        statuses(404, get('/stream')),
+        statuses(404, get(wrong)),
+        statuses(404, get(`${wrong}/0/0`)),
+        statuses(404, get(`${pathname.slice(0, -8)}/stream`)),
+        statuses(404, get(`${pathname}/../../etc/passwd`)),
+        statuses(404, get(`${pathname}/0/00`)),
+        statuses(421, get(`${pathname}/0/0`, 'a.example')),
+        statuses(405, post(4), new Client().ask()),
+        statuses(405, shared.head('PUT', 'stream')),
         statuses(400, 'a line and no more\r\n\r\n'),
-        ...Array.from({ length: 50 }, () => sendRaw(1000, noise(1 + random(5000)))),
-        ...Array.from({ length: 50 }, () => sendRaw(1000, post(pathname, 1 << 20), noise(1 << 16))),
-        ...Array.from({ length: 50 }, () => sendRaw(1000, post(pathname, 20))),
+        statuses(431, `GET ${pathname} HTTP/1.1\r\na: `, 'b'.repeat(9000)),
+        ...Array.from({ length: 50 }, () => shared.send(1000, noise(1 + random(5000)))),
+        ...Array.from({ length: 50 }, () => shared.send(1000, post(1 << 20), noise(1 << 16))),
+        ...Array.from({ length: 50 }, () => shared.send(1000, post(20))),
         ...Array.from({ length: 50 }, async () => connect(shared.port, '127.0.0.1').destroy()),
     ]);
     const late = new Client();
@@ -201,71 +139,36 @@ test('what others send changes nothing', { timeout: 20000 }, async () => {
     assert.deepEqual(contentsOf(late.screen), contentsOf(early.screen));
 });
 
-/** A client over a connection of its own, which asks until it shows the last frame. */
-class Asker {
-    client = new Client();
-    bytes = 0;
-    #rest = Buffer.alloc(0);
-
-    constructor() {
-        this.socket = connect(shared.port, '127.0.0.1').setNoDelay();
-        this.socket.on('data', data => this.#read(data));
-        this.first = new Promise(done => this.onfirst = done);
-        this.last = new Promise(done => this.onlast = done);
-        this.#ask();
-    }
-
-    #ask() {
-        const ask = this.client.ask(), head = post(new URL(shared.stream).pathname, ask.length);
-        this.socket.write(Buffer.concat([Buffer.from(head), ask]));
-    }
-
-    #read(data) {
-        this.#rest = Buffer.concat([this.#rest, data]);
-        const start = this.#rest.indexOf('\r\n\r\n') + 4;
-        const head = this.#rest.toString('latin1', 0, start);
-        const end = start + Number(/content-length: (\d+)/.exec(head)?.[1]);
-        if (start < 4 || this.#rest.length < end) return;
-        this.client.feed(this.#rest.subarray(start, end));
-        this.bytes += end - start;
-        this.#rest = this.#rest.subarray(end);
-        this.onfirst();
-        if (isLast(this.client)) this.onlast(performance.now());
-        else this.#ask();
-    }
-}
-
 /** Lets the page sleep behind another one, and counts what it asks from now on. */
 async function hidePage() {
     await browser.send('Target.createTarget', { url: 'about:blank' });
     await page.until("document.visibilityState === 'hidden'");
     await page.send('Network.enable');
-    browser.on('Network.requestWillBeSent', () => shared.requests++);
+    browser.on('Network.requestWillBeSent', () => requests++);
 }
 
-const isLast = ({ screen }) => screen.width > 0 && screen.text(0).includes('frame 100');
+const isLast = ({ screen }) => screen.text(0).includes('frame 100');
 
 test(`${CLIENTS} clients at once`, { timeout: 30000 }, async () => {
     if (page) await hidePage();
-    const askers = Array.from({ length: CLIENTS }, () => new Asker());
-    await Promise.all(askers.map(asker => asker.first));
+    const clients = Array.from({ length: CLIENTS }, () => new Client());
+    const ends = clients.map(client => follow(client, shared.stream, isLast));
+    await until(() => clients.every(({ answers }) => answers > 0), 'a first answer for each');
     const began = performance.now();
     shared.press('r');
-    const times = await Promise.all(askers.map(async asker => await asker.last - began));
-    const mean = values => Math.round(values.reduce((sum, value) => sum + value) / CLIENTS);
-    console.log(`${CLIENTS} clients: ${mean(askers.map(({ client }) => client.answers))} answers and `
-        + `${mean(askers.map(({ bytes }) => bytes))} bytes each, the last after ${mean(times)} ms, `
-        + `and after ${Math.round(Math.max(...times))} at most`);
+    const times = await Promise.all(ends.map(end => end.then(() => performance.now() - began)));
+    const answers = clients.map(client => client.answers).sort((a, b) => a - b);
+    console.log(`${CLIENTS} clients: ${answers[0]} to ${answers.at(-1)} answers each, the last `
+        + `after ${Math.round(Math.max(...times))} ms`);
     await follow(early, shared.stream, isLast);
     const last = JSON.stringify(contentsOf(early.screen));
-    for (const { client, socket } of askers) {
-        assert.equal(JSON.stringify(contentsOf(client.screen)), last);
-        socket.destroy();
-    }
+    for (const { screen } of clients) assert.equal(JSON.stringify(contentsOf(screen)), last);
+    assert.ok(shared.threads <= 8, `${shared.threads} threads`);
 });
 
-test('a page that slept shows the screen', { skip: !program && 'chromium is not there' }, async () => {
-    assert.ok(shared.requests <= 1, `${shared.requests} requests while it slept`);
+const skip = !program && "Chromium isn't there";
+test('a page that slept shows the screen', { skip }, async () => {
+    assert.ok(requests <= 1, `${requests} requests while it slept`);
     await page.send('Page.bringToFront');
     const element = "document.querySelector('tikeburo-screen')";
     await page.until(`${element}.screen.text(0).includes('frame 100')`);
@@ -283,14 +186,15 @@ test('all show the last screen at the end', { timeout: 20000 }, async () => {
         await until(() => follower.errors.includes('frame 100'), 'the last frame');
     }
     shared.press('q');
-    await follow(early, shared.stream);
+    const end = await follow(early, shared.stream);
+    assert.deepEqual(end, { state: 'ended', exit: 7 });
     const last = JSON.parse(JSON.stringify(contentsOf(early.screen)));
     assert.deepEqual(await late.last, last);
     assert.deepEqual(await stopped.last, last);
     await stream;
     assert.deepEqual(JSON.parse(JSON.stringify(contentsOf(streamed.screen))), last);
     assert.deepEqual(await shared.ended, [7, null]);
-    const { entries, fault } = readRecording(readFileSync(shared.record));
+    const { entries, fault } = readRecording(readFileSync(record));
     assert.equal(fault, null);
     const player = new Player(entries);
     player.seek(player.duration);

@@ -1,14 +1,14 @@
 #!/usr/bin/env node
-// Measures what viewers cost `share`: `SHARE=PROGRAM node measure.mjs VIEWERS UPDATES [varnish]`.
-// A program makes so many updates a second, and as many viewers follow them, directly or behind
-// Varnish; then it writes 400 KB. It prints what the viewers got, the share of a processor that
-// each process took, and how long the program waited. It needs cc, and files for the viewers
-// (`ulimit -n`).
+// Measures what viewers cost `share`: `SHARE=PROGRAM node measure.mjs VIEWERS UPDATES [ENGINE]`.
+// A program makes so many updates a second, and as many viewers follow them, directly or behind an
+// engine, `varnish` or `nginx`; then it writes 400 KB. It prints what the viewers got, what each
+// process took in processors and memory, and how long the program waited. It needs cc, and a file
+// for each viewer (`ulimit -n`).
 import { execFileSync, spawn } from 'node:child_process';
-import { readFileSync } from 'node:fs';
+import { chmodSync, readFileSync } from 'node:fs';
 import { join } from 'node:path';
 import { Client } from '../../js/tikeburo.mjs';
-import { startVarnish } from './edges.mjs';
+import { startNginx, startVarnish } from './edges.mjs';
 import { follow } from './follow.mjs';
 import { here, makeFolder, pause, removeFolder, Shared, until } from './shared.mjs';
 
@@ -33,6 +33,11 @@ function usedByShare(id) {
     return [own[0] - writer[0], own[1] - writer[1]];
 }
 
+const START = {
+    varnish: startVarnish,
+    nginx: (own, next) => startNginx('nginx.conf', own, next),
+};
+
 /** How long the program takes to write 400 KB now. */
 async function timeWriting(shared) {
     const client = new Client(), { id } = shared;
@@ -43,10 +48,11 @@ async function timeWriting(shared) {
     return client.screen.title;
 }
 
+chmodSync(folder, 0o755); // an engine that root starts runs as somebody else
 execFileSync('cc', ['-O2', here('viewers.c'), '-o', program]);
 const words = ['--no-wait', '--', process.execPath, here('writer.mjs'), updates];
 const shared = await Shared.apart(words, 'ignore').start();
-const edge = engine && await startVarnish(join(folder, 'varnish'), shared.port);
+const edge = engine && await START[engine](join(folder, engine), shared.port);
 await pause(1000);
 const { pathname } = new URL(shared.stream);
 const child = spawn(program, [edge?.port ?? shared.port, pathname, viewers, SECONDS].map(String));
@@ -54,7 +60,7 @@ let line = '';
 child.stdout.on('data', data => line += data);
 const done = new Promise(close => child.on('close', close));
 await pause(1000 * (Math.floor(viewers / 2000) + 3));
-const measured = [['share', () => usedByShare(shared.id)], ['varnish', () => usedBy(edge.id)]]
+const measured = [['share', () => usedByShare(shared.id)], [engine, () => usedBy(edge.id)]]
     .slice(0, edge ? 2 : 1);
 const before = measured.map(([, use]) => use()[0]), began = Date.now();
 await pause(1000 * (SECONDS - 3));

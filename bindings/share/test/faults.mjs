@@ -108,6 +108,16 @@ test('a token in a file keeps the address, and viewers come back', async () => {
     second.kill('SIGKILL');
 });
 
+test('viewers of a session that is gone learn it', async () => {
+    const program = text => ['--', 'sh', '-c', `printf ${text}; sleep 100`];
+    const first = await startApart(...program('first')), client = await show(first, 'first');
+    first.kill('SIGKILL');
+    await first.ended;
+    const second = await startApart('--port', first.port, ...program('second'));
+    assert.deepEqual(await follow(client, first.stream), { state: 'gone', exit: null });
+    second.kill('SIGKILL');
+});
+
 test('the address of a proxy is printed, and its name is a host', async () => {
     const url = 'https://screens.example/a/';
     const words = ['--no-wait', '--listen', '127.0.0.1:0', '--url', url];
@@ -243,7 +253,7 @@ test('a thousand idle connections lock no viewer out', async () => {
 test('who asks for numbers that nobody was given gets the screen', async () => {
     const shared = await startApart('--', 'sh', '-c', 'printf ready; sleep 100');
     const { screen } = await show(shared, 'ready');
-    for (const name of [`1/${screen.number}`, `${screen.surface}/1`, `${screen.surface}/9999999`]) {
+    for (const name of [`1/${screen.number}`, `${screen.surface}/0`, `${screen.surface}/9999999`]) {
         const response = await fetch(`${shared.stream}/${name}`);
         const { value } = await response.body.getReader().read(), client = new Client();
         client.feed(value);

@@ -13,7 +13,7 @@ pub struct Place {
 }
 
 impl Place {
-    /// Opens the file, which is made where there is none.
+    /// Opens the file, which is made where there is none. From now on its owner alone may read it.
     pub fn open(path: &Path) -> io::Result<Place> {
         let mut options = OpenOptions::new();
         options.write(true).mode(0o600);
@@ -23,14 +23,16 @@ impl Place {
             Err(error) if error.kind() == ErrorKind::AlreadyExists => options.open(path)?,
             made => made?,
         };
+        if file.metadata()?.is_file() {
+            file.set_permissions(Permissions::from_mode(0o600))?;
+        }
         let path = path.into();
         Ok(Place { path, file, is_new })
     }
 
-    /// Empties the file, which its owner alone may read from now on.
+    /// Empties the file.
     pub fn begin(self) -> io::Result<File> {
         if self.file.metadata()?.is_file() {
-            self.file.set_permissions(Permissions::from_mode(0o600))?;
             self.file.set_len(0)?;
         }
         Ok(self.file)

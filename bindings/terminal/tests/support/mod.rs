@@ -1,6 +1,8 @@
 //! What the tests of the terminal have in common.
 #![allow(dead_code)] // not each of them needs it all
 
+pub mod parts;
+
 use tikeburo::{Attributes, Cell, CursorShape, CursorVisibility, Options, Widths};
 use tikeburo_terminal::{Modes, Terminal};
 

@@ -1,6 +1,5 @@
-//! Shows a recorded session: a surface plays it in parts, and after each one the terminal is sent
-//! what it lacks. The terminal has to have the session's size, 80 columns and 24 rows unless others
-//! are named.
+//! Shows a recorded session: it is played in parts, and after each one the window is sent what it
+//! lacks. The window has to have the session's size, 80 columns and 24 rows unless others are named.
 //!
 //! `python3 examples/terminal/recordings.py editor 40 | cargo run --example renderer -- 80 24`
 

@@ -1,9 +1,8 @@
-//! A small terminal: it prints the screen that its input leaves, and says how long that took. With
-//! `log` behind the size the surface keeps its changes, as for viewers. With `keep` and a number
-//! there, the terminal keeps the last rows that scroll off, at most so many, and says how many it
-//! has.
-//! `python3 examples/terminal/frames.py 100 | cargo run --release --features terminal --example
-//! terminal -- 80 24`
+//! Prints the screen that its input leaves on a terminal, and says how long that took. With `log`
+//! behind the size the surface keeps its changes, as for viewers. With `keep` and a number there,
+//! the terminal keeps that many of the rows that scroll off last, and says how many it has.
+//!
+//! `python3 examples/terminal/frames.py 100 | cargo run --release --example terminal -- 80 24`
 
 use std::error::Error;
 use std::io::{self, Read};

@@ -40,10 +40,11 @@ impl Changes {
     /// use tikeburo::{Changes, ColorAttribute};
     ///
     /// let mut changes = Changes::new();
-    /// changes.title("notes").text("gone").clear_screen(ColorAttribute::Default).text("shown");
-    /// changes.remove(&[1..2]);
+    /// changes.title("old").text("gone").title("new").text("gone, too");
+    /// changes.clear_screen(ColorAttribute::Default).text("shown");
+    /// changes.remove(&[0..2, 3..4]);
     /// let mut wanted = Changes::new();
-    /// wanted.title("notes").clear_screen(ColorAttribute::Default).text("shown");
+    /// wanted.title("new").clear_screen(ColorAttribute::Default).text("shown");
     /// assert_eq!(changes, wanted);
     /// ```
     pub fn remove(&mut self, ranges: &[Range<usize>]) {
@@ -208,10 +209,10 @@ mod tests {
         let all = list(&["a", "か", "c", "d"]);
         for (ranges, wanted) in [
             (&[][..], list(&["a", "か", "c", "d"])),
-            (&[0..2], list(&["か", "c", "d"])),
+            (&[0..1, 1..2], list(&["か", "c", "d"])),
             (&[2..4, 6..8], list(&["a", "c"])),
             (&[0..0, 4..6, 9..12], list(&["a", "か", "d"])),
-            (&[0..99], list(&[])),
+            (&[0..4, 4..99], list(&[])),
         ] {
             let mut changes = all.clone();
             changes.remove(ranges);

@@ -281,10 +281,7 @@ impl Batch {
         } else {
             self.skips.count(height)
         };
-        let undone = self.segments.undone_behind(skipped);
-        if skipped > 0 || !undone.is_empty() {
-            self.changes.remove(&[&[0..skipped], undone].concat());
-        }
+        self.changes.remove(self.segments.undone(skipped));
         let made = match scrollback {
             Some(scrollback) => scrollback.make(surface, &self.changes),
             None => surface.add(&self.changes).map(drop),

@@ -96,9 +96,13 @@ impl Segments {
         self.undone.clear();
     }
 
-    /// The ranges of changes that others undo, behind the first `count` ones, in order.
-    pub(crate) fn undone_behind(&mut self, count: usize) -> &[Range<usize>] {
+    /// The ranges of changes that are to be dropped, in order: the first `count` ones, and those
+    /// behind them that others undo.
+    pub(crate) fn undone(&mut self, count: usize) -> &[Range<usize>] {
         self.undone.retain(|range| range.start >= count);
+        if count > 0 {
+            self.undone.push(0..count);
+        }
         self.undone.sort_unstable_by_key(|range| range.start);
         &self.undone
     }
@@ -115,14 +119,17 @@ mod tests {
             segments.begin(*place, 3 * number, true);
             segments.clear_row();
         }
-        segments.undone_behind(0).to_vec()
+        segments.undone(0).to_vec()
     }
 
     #[test]
     fn what_is_written_anew_is_undone() {
         assert_eq!(undone(&[(0, 1), (0, 1), (0, 1)]), [0..3, 3..6]);
-        assert_eq!(undone(&[(5, 1), (0, 2), (5, 1), (2, 2)]), [0..3]);
-        assert_eq!(undone(&[(5, 1), (0, 1)]), [0..3]);
+        assert_eq!(undone(&[(5, 1), (0, 2), (5, 1), (0, 2)]), [0..3, 3..6]);
+        assert_eq!(
+            undone(&[(5, 1), (0, 2), (0, 1), (2, 2), (0, 2)]),
+            [0..3, 9..12]
+        );
         assert_eq!(undone(&[(0, 1), (5, 1)]), []);
     }
 
@@ -138,9 +145,8 @@ mod tests {
         segments.clear_row();
         segments.leave();
         segments.begin((0, 1), 12, true);
-        assert_eq!(segments.undone_behind(0), []);
+        assert_eq!(segments.undone(0), []);
         segments.clear_row();
-        assert_eq!(segments.undone_behind(0), [3..6]);
-        assert_eq!(segments.undone_behind(4), []);
+        assert_eq!(segments.undone(2), [0..2, 3..6]);
     }
 }

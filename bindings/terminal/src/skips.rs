@@ -1,7 +1,7 @@
 //! Rows that scroll off before they are shown.
 
 /// After how many rows changes begin anew.
-const DISTANCE: usize = 8;
+const DISTANCE: usize = 4;
 
 /// Where in a list changes begin that need neither the place nor the pen of those before them. Once
 /// the whole screen has scrolled since one of them, all that those print is gone.
@@ -59,7 +59,7 @@ mod tests {
         // Rows 17 to 40 are on the screen, and so changes from behind those of row 16 on.
         assert_eq!(
             [24, 25, 40, 100].map(|height| skips.count(height)),
-            [32, 16, 0, 0]
+            [32, 24, 0, 0]
         );
         skips.scroll(100, 90);
         assert_eq!(skips.count(24), 80);

@@ -28,6 +28,12 @@ const NEVER: &str = "no-store";
 // not for long: viewers would be late.
 const SHORTLY: &str = "public, max-age=1, stale-while-revalidate=0";
 const SEQUENCE: &str = "application/cbor-seq";
+const TEXT: &str = "text/plain";
+// Why there is nothing, for who reads it.
+const OTHER_NAME: &str = "The server has another name. Start share with --url to use this one.\n";
+const NONE: &str = "There is no such screen, or no longer.\n";
+const GET_ALONE: &str = "GET is the only method.\n";
+const ENDED: &str = "The program has ended.\n";
 const OWN_FILES: &str = "default-src 'self'; frame-ancestors 'none'";
 
 /// What all connections share.
@@ -60,10 +66,11 @@ fn respond_to_all(status: StatusCode, cached: &'static str, body: Body) -> Respo
     response
 }
 
-/// A response without a body, after which the connection closes.
-fn refuse(status: StatusCode, cached: &'static str) -> Response<Body> {
-    let mut response = respond_to_all(status, cached, Body::empty());
+/// A response that says why there is nothing, after which the connection closes.
+fn refuse(status: StatusCode, cached: &'static str, why: &'static str) -> Response<Body> {
+    let mut response = respond_to_all(status, cached, why.into());
     let headers = response.headers_mut();
+    headers.insert(header::CONTENT_TYPE, HeaderValue::from_static(TEXT));
     headers.insert(header::CONNECTION, HeaderValue::from_static("close"));
     response
 }
@@ -90,13 +97,13 @@ impl Site {
         let path = request.uri().path().strip_prefix('/').unwrap_or_default();
         let (token, name) = path.split_once('/').unwrap_or((path, "none"));
         if !self.names_this(request) {
-            return refuse(StatusCode::MISDIRECTED_REQUEST, NEVER);
+            return refuse(StatusCode::MISDIRECTED_REQUEST, NEVER, OTHER_NAME);
         }
         if !self.token.is(token) {
-            return refuse(StatusCode::NOT_FOUND, SHORTLY);
+            return refuse(StatusCode::NOT_FOUND, SHORTLY, NONE);
         }
         if ![Method::GET, Method::HEAD].contains(request.method()) {
-            let mut response = refuse(StatusCode::METHOD_NOT_ALLOWED, NEVER);
+            let mut response = refuse(StatusCode::METHOD_NOT_ALLOWED, NEVER, GET_ALONE);
             let headers = response.headers_mut();
             headers.insert(header::ALLOW, HeaderValue::from_static("GET, HEAD"));
             return response;
@@ -117,7 +124,7 @@ impl Site {
         }
         match name.strip_prefix("stream/").and_then(read_name) {
             Some(shown) => self.lead_on(shown, until, SHORTLY, busy).await,
-            None => refuse(StatusCode::NOT_FOUND, SHORTLY),
+            None => refuse(StatusCode::NOT_FOUND, SHORTLY, NONE),
         }
     }
 
@@ -160,7 +167,7 @@ impl Site {
     }
 
     fn say_end(&self) -> Response<Body> {
-        let mut response = refuse(StatusCode::GONE, SHORTLY);
+        let mut response = refuse(StatusCode::GONE, SHORTLY, ENDED);
         if let Some(status) = self.hub.ended().and_then(|end| end.status) {
             let headers = response.headers_mut();
             headers.insert(EXIT_STATUS, HeaderValue::from(u16::from(status)));

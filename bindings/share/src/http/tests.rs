@@ -278,6 +278,15 @@ fn what_is_no_request_of_a_viewer_is_refused() {
 }
 
 #[test]
+fn another_name_is_told_the_option_that_allows_it() {
+    let served = Served::start(8);
+    let request = served
+        .head("GET", "")
+        .replace("host: ", "host: a.example\r\nx: ");
+    served.send(&request).expect("--url");
+}
+
+#[test]
 fn the_page_is_served() {
     let served = Served::start(8);
     for (name, kind) in [
@@ -304,6 +313,7 @@ fn the_end_is_said_with_the_exit_status() {
     assert_eq!(waits.status(), 410);
     waits.expect("exit-status: 7\r\n");
     waits.expect("access-control-expose-headers: exit-status\r\n");
+    waits.expect("The program has ended.");
     assert!(waits.is_closed());
     let mut late = served.get("stream/0/0");
     late.expect("all of 10");

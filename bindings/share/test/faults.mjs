@@ -261,6 +261,17 @@ test('who asks for numbers that nobody was given gets the screen', async () => {
     }
 });
 
+test('a program that writes without end takes no more memory', async () => {
+    const shared = await start(Shared.apart(['--no-wait', '--', 'yes'], 'ignore'));
+    const client = await show(shared, 'y');
+    await follow(client, shared.stream, ({ answers }) => answers > 50);
+    const status = readFileSync(`/proc/${shared.id}/status`, 'utf8');
+    const [, kilobytes] = /VmRSS:\s+(\d+) kB/.exec(status);
+    assert.ok(Number(kilobytes) < 50000, `${kilobytes} KB`);
+    shared.kill('SIGTERM');
+    assert.deepEqual(await shared.ended, [143, null]);
+});
+
 test('viewers don\'t make the program wait', async () => {
     const write = 'read line; begin=$(date +%s%N); head -c 400000 /dev/zero | tr "\\0" a; '
         + 'end=$(date +%s%N); printf "took %s." $(((end - begin) / 1000000)); read line';

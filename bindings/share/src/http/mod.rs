@@ -29,10 +29,10 @@ const NEVER: &str = "no-store";
 const SHORTLY: &str = "public, max-age=1, stale-while-revalidate=0";
 const SEQUENCE: &str = "application/cbor-seq";
 const TEXT: &str = "text/plain";
-// Why there is nothing, for who reads it.
+// What a refused response says.
 const OTHER_NAME: &str = "The server has another name. Start share with --url to use this one.\n";
 const NONE: &str = "There is no such screen, or no longer.\n";
-const GET_ALONE: &str = "GET is the only method.\n";
+const METHODS: &str = "GET and HEAD are the only methods.\n";
 const ENDED: &str = "The program has ended.\n";
 const OWN_FILES: &str = "default-src 'self'; frame-ancestors 'none'";
 
@@ -103,7 +103,7 @@ impl Site {
             return refuse(StatusCode::NOT_FOUND, SHORTLY, NONE);
         }
         if ![Method::GET, Method::HEAD].contains(request.method()) {
-            let mut response = refuse(StatusCode::METHOD_NOT_ALLOWED, NEVER, GET_ALONE);
+            let mut response = refuse(StatusCode::METHOD_NOT_ALLOWED, NEVER, METHODS);
             let headers = response.headers_mut();
             headers.insert(header::ALLOW, HeaderValue::from_static("GET, HEAD"));
             return response;

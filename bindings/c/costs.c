@@ -1,4 +1,4 @@
-/* What bytes of a stranger's cost a client, each fed COUNT times behind what comes first:
+/* What bytes of a stranger's cost a client, each fed COUNT times after what comes first:
  *
  *     costs clear COUNT    a clear of 1024x1024 to a true colour with a palette's fallback
  *     costs feed COUNT     a line feed in the last row of 1x65,536
@@ -102,7 +102,7 @@ static void put_scroll(stream *s, uint32_t rows) {
     put_head(s, NUMBER, 1);
 }
 
-/* A pen's link with so many params, whose keys ascend. */
+/* A pen's link with this many params, whose keys ascend. */
 static void put_link(stream *s, uint32_t params) {
     char key[16];
     put_head(s, ARRAY, 2);
@@ -140,7 +140,7 @@ static void put_runs(stream *s, uint32_t runs) {
     }
 }
 
-/* Feeds a client the bytes in pieces of so many, and frees them. */
+/* Feeds a client the bytes in pieces of this many, and frees them. */
 static tk_status feed(tk_handle *client, stream *s, size_t piece) {
     tk_status status = TK_DONE;
     for (size_t at = 0; at < s->len && status == TK_DONE; at += piece) {
@@ -153,7 +153,7 @@ static tk_status feed(tk_handle *client, stream *s, size_t piece) {
     return status;
 }
 
-/* So many deltas of one change each, behind a repaint with the cursor in the last row. */
+/* So many deltas of one change each, after a repaint with the cursor in the last row. */
 static tk_status feed_changes(tk_handle *client, const char *name, uint32_t count) {
     bool clears = strcmp(name, "clear") == 0;
     uint32_t width = clears ? 1024 : 1, height = clears ? 1024 : 65536;
@@ -172,7 +172,7 @@ static tk_status feed_changes(tk_handle *client, const char *name, uint32_t coun
     return feed(client, &s, s.len);
 }
 
-/* So many answers that are refused, each behind a reset. */
+/* So many answers that are refused, each after a reset. */
 static tk_status feed_refused(tk_handle *client, const char *name, uint32_t count) {
     tk_status status = TK_DONE;
     for (uint32_t i = 0; i < count && status == TK_DONE; i++) {
@@ -191,7 +191,7 @@ static tk_status feed_refused(tk_handle *client, const char *name, uint32_t coun
     return status;
 }
 
-/* One answer of one change with so many parts. */
+/* One answer of one change with this many parts. */
 static tk_status feed_parts(tk_handle *client, bool is_link, bool whole, uint32_t count) {
     stream s = {.at = NULL};
     put_answer(&s, 80, 24, 0, 1);

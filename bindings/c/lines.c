@@ -275,7 +275,7 @@ typedef tk_status (*scrolling)(tk_handle *surface, const tk_change *changes, siz
                                const char *texts, size_t len, tk_handle *lines);
 static const scrolling SCROLLINGS[] = {tk_add_changes_scrolling, tk_add_unlogged_scrolling};
 
-/* The rows come behind the old lines, in the order in which they leave, and viewers go on. */
+/* The rows come after the old lines, in the order in which they leave, and viewers go on. */
 static void test_scrolled_off(scrolling add) {
     static const char texts[] = "xか\r\none\r\ntwo\r\nthree\r\nfourend";
     const tk_change list[] = {

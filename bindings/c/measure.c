@@ -41,7 +41,7 @@ static tk_status quiet(tk_handle *surface, long count, size_t *result) {
     return status != TK_DONE ? status : tk_number(surface, result);
 }
 
-/* Prints so many lines, from the one at `limit` on with the oldest one removed for each. How many
+/* Prints this many lines, from the one at `limit` on with the oldest one removed for each. How many
  * there are in the end. */
 static tk_status keep(tk_handle *surface, long count, long limit, size_t *result) {
     tk_handle lines = TK_NONE;

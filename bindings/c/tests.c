@@ -586,7 +586,7 @@ static void test_answers_one_by_one(void) {
     CHECK(tk_client_keep(&client, repaint.at + repaint.len - 1, 1, &fault) == TK_DONE);
     CHECK(tk_client_feed(&client, delta.at, delta.len, &count, &fault) == TK_DONE && count == 2);
     CHECK(screen_is(&client, "ab\n\n") && fault.kind == 99);
-    /* bytes that are no answer stop it, and it keeps none behind them */
+    /* bytes that are no answer stop it, and it keeps none after them */
     CHECK(tk_client_keep(&client, (const uint8_t *)"\x80", 1, &fault) == TK_DONE);
     CHECK(tk_client_take_answer(&client, &taken, &fault) == TK_UNREADABLE);
     CHECK(fault.kind == TK_FAULT_TYPE && taken.kind == TK_TAKEN_NONE);

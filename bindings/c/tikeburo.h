@@ -203,7 +203,7 @@ enum {
 tk_status tk_surface_new(tk_handle *surface, size_t width, size_t height, uint8_t widths,
                          size_t source);
 
-/* The characters from the first to the last, by their numbers in Unicode, of so many columns. */
+/* The characters from the first to the last, by their numbers in Unicode, of this many columns. */
 typedef struct tk_width_range {
     uint32_t first;
     uint32_t last;
@@ -282,7 +282,7 @@ tk_status tk_changed_rows(tk_handle *handle, size_t since, uint8_t *rows, size_t
 tk_status tk_screen_text(tk_handle *handle, char *text, size_t room, size_t *len);
 
 /* The texts of a row's visible cells: with `filled` of all that the row shows, up to the width, and
- * else of those within its stored length, behind which it shows default blanks. TK_RANGE: the row.
+ * else of those within its stored length, after which it shows default blanks. TK_RANGE: the row.
  * TK_SHORT. */
 tk_status tk_row_text(tk_handle *handle, size_t row, bool filled, char *text, size_t room,
                       size_t *len);
@@ -324,8 +324,8 @@ typedef struct tk_row_counts {
 } tk_row_counts;
 
 /* A row at once: its visible cells from the left, within its stored length; the attributes of each
- * run of cells that have the same ones and the same link; and the texts of the cells behind one
- * another. Behind the last cell the row shows default blanks. *counts says how many there are of
+ * run of cells that have the same ones and the same link; and the texts of the cells, one after
+ * another. After the last cell the row shows default blanks. *counts says how many there are of
  * each. TK_RANGE: the row. TK_SHORT: one of the three is too short, and nothing is written but
  * *counts. After any other error *counts is as it was too. */
 tk_status tk_row_cells(tk_handle *handle, size_t row, tk_row_cell *cells, size_t cell_room,
@@ -547,7 +547,7 @@ static inline tk_status tk_clear_link(tk_handle *surface) {
     return tk_add_numbers(surface, TK_CHANGE_NO_LINK, 0, 0, 0);
 }
 
-/* To this column and row, or by so many, below 0 to the left or up. */
+/* To this column and row, or by this many, below 0 to the left or up. */
 static inline tk_status tk_move_to(tk_handle *surface, size_t column, size_t row) {
     return tk_add_numbers(surface, TK_CHANGE_MOVE, column, row, 0);
 }
@@ -655,7 +655,7 @@ static inline tk_status tk_draw(tk_handle *surface, tk_handle *source, size_t co
 
 /* Copies what the region of this column, row, width and height shows to the region of this size at
  * another column and row. Both are cut to what fits. It is logged as a list of changes: where they
- * print anything, the cursor is behind what they printed last, and the pen is the one of that. */
+ * print anything, the cursor is after what they printed last, and the pen is the one of that. */
 tk_status tk_copy(tk_handle *surface, size_t column, size_t row, size_t width, size_t height,
                   size_t to_column, size_t to_row);
 
@@ -666,7 +666,7 @@ tk_status tk_draw_region(tk_handle *surface, size_t column, size_t row, size_t w
 tk_status tk_draw_line_distinct(tk_handle *surface, size_t row, tk_handle *lines, size_t index);
 
 /* Draws a line of a list on a row: the row shows what the line does, cut or with default blanks
- * behind it. Where there is no such row, nothing is drawn. Cursor and pen are as before. It is
+ * after it. Where there is no such row, nothing is drawn. Cursor and pen are as before. It is
  * logged as a list of changes. TK_RANGE: index. TK_OTHER_WIDTHS: a cell of the line has another
  * width than the surface measures for its text; nothing is drawn. */
 static inline tk_status tk_draw_line(tk_handle *surface, size_t row, tk_handle *lines,
@@ -722,9 +722,9 @@ static inline tk_status tk_add_unlogged_scrolling(tk_handle *surface, const tk_c
     return tk_add_unlogged_scrolling_distinct(surface, changes, count, texts, len, lines);
 }
 
-/* Removes so many lines from the one of index `first` on. Of the first lines the memory of as many
+/* Removes `count` lines from the one of index `first` on. Of the first lines the memory of as many
  * as there are lines left is kept, for rows that scroll in when others scroll off to this list.
- * TK_RANGE: there are not so many. */
+ * TK_RANGE: there are fewer. */
 tk_status tk_lines_remove(tk_handle *lines, size_t first, size_t count);
 
 /* Reads a line, as tk_row_cells reads a row. A compressed line is read from a copy, which takes
@@ -733,9 +733,9 @@ tk_status tk_line_cells(tk_handle *lines, size_t index, tk_row_cell *cells, size
                         tk_attributes *attributes, size_t attribute_room, char *text, size_t room,
                         tk_row_counts *counts);
 
-/* Stores so many lines from the one of index `first` on in less memory: each as one text with its
- * runs of attributes. They show what they did. TK_RANGE: there are not so many. TK_MEMORY: some of
- * them may be compressed. */
+/* Stores `count` lines from the one of index `first` on in less memory: each as one text with its
+ * runs of attributes. They show what they did. TK_RANGE: there are fewer. TK_MEMORY: some of them
+ * may be compressed. */
 tk_status tk_lines_compress(tk_handle *lines, size_t first, size_t count);
 
 /* Wraps each line into lines of at most this many columns, which come in its place: the spaces at
@@ -860,9 +860,9 @@ tk_status tk_client_take_answer(tk_handle *client, tk_taken *taken, tk_fault *fa
 /* Writes what to ask for the next answer, 20 bytes at most. TK_WRONG_KIND, TK_SHORT. */
 tk_status tk_client_ask(tk_handle *client, uint8_t *bytes, size_t room, size_t *len);
 
-/* Writes the ask of whoever shows what this number names of the surface of this number, as
- * tk_client_ask writes it; of 0 and 0, that of whoever shows nothing. TK_RANGE: there is a number
- * and no source. TK_SHORT. */
+/* Writes the ask of a client that shows what `number` names of the surface `source`, as
+ * tk_client_ask writes it; of 0 and 0, that of a client that shows nothing. TK_RANGE: there is a
+ * number and no source. TK_SHORT. */
 tk_status tk_make_ask(size_t source, size_t number, uint8_t *bytes, size_t room, size_t *len);
 
 /* Reads the two numbers of an ask, and nothing after it. TK_TRUNCATED: the bytes end before the ask

@@ -73,7 +73,7 @@ function readAttribute(reader) {
 
 const toStart = () => 0;
 
-/** A position, as what gives the place that it leads to: from `at`, in so many columns or rows. */
+/** A position, as what gives the place that it leads to: from `at`, in `size` columns or rows. */
 function readPosition(reader) {
     reader.item(ARRAY, 2, 2);
     const which = reader.item(UINT, 0, 2, 'type'), isBack = !which && reader.is(NEGATIVE);

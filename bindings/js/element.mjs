@@ -244,7 +244,7 @@ export class TikeburoScreen extends HTMLElement {
         this.#later();
     }
 
-    /** Shows what was there so many milliseconds from the beginning. */
+    /** Shows what was there this many milliseconds from the beginning. */
     seek(milliseconds) {
         this.#player?.seek(milliseconds);
         this.#judge();
@@ -317,7 +317,7 @@ export class TikeburoScreen extends HTMLElement {
         this.dispatchEvent(new CustomEvent('state'));
     }
 
-    /** What is copied has no blanks behind its rows' texts. */
+    /** What is copied has no blanks after its rows' texts. */
     #copy(event) {
         const text = this.#grid.selectedText(this.shadowRoot);
         if (!text) return;

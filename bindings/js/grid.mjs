@@ -228,7 +228,7 @@ export class Grid {
         return span;
     }
 
-    /** The cursor lies over the cell that it is in; behind the last column, over the last one. */
+    /** The cursor lies over the cell that it is in; after the last column, over the last one. */
     #drawCursor(screen) {
         const { x, y, shape, color, visible } = screen.cursor, cursor = this.#cursor;
         cursor.hidden = !visible || !screen.height;

@@ -74,7 +74,7 @@ class Patience {
     }
 }
 
-/** The address of what a client lacks. A query stays behind it, as that of a signed address. */
+/** The address of what a client lacks. A query stays after it, as that of a signed address. */
 function addressOf(base, { surface, number }) {
     const address = new URL(base, globalThis.document?.baseURI);
     address.pathname = `${address.pathname.replace(/\/+$/, '')}/${surface}/${number}`;

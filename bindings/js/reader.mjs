@@ -4,7 +4,7 @@
 // The types of items. The bools and null are known by their first byte.
 export const UINT = 0, NEGATIVE = 1, BYTES = 2, TEXT = 3, ARRAY = 4;
 export const FALSE = 0xf4, TRUE = 0xf5, NULL = 0xf6;
-// Of arguments of 1, 2, 4 and 8 bytes: what reads one, and the least that wants so many.
+// Of arguments of 1, 2, 4 and 8 bytes: what reads one, and the least that wants this many.
 const GETTERS = ['getUint8', 'getUint16', 'getUint32', 'getBigUint64'];
 const LEAST = [24, 256, 65536, 4294967296];
 const utf8 = new TextDecoder('utf-8', { fatal: true, ignoreBOM: true }); // U+FEFF stays
@@ -40,7 +40,7 @@ export class Reader {
         throw new Fault(kind, at, this.change, why);
     }
 
-    /** Goes on by so many bytes, from the place that it returns. */
+    /** Goes on by this many bytes, from the place that it returns. */
     skip(count) {
         const begin = this.next, end = begin + count;
         if (end > this.limit) this.fail('limit', `an answer of more than ${this.limit} bytes`);

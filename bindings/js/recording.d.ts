@@ -6,7 +6,7 @@ export interface Entry {
     readonly bytes: Uint8Array;
 }
 
-/** The bytes of an entry, to be written behind those of earlier ones. */
+/** The bytes of an entry, to be written after those of earlier ones. */
 export function encodeEntry(milliseconds: number, bytes: Uint8Array): Uint8Array;
 
 /**

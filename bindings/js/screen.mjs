@@ -18,13 +18,13 @@ class Cell {
         Object.freeze(this);
     }
 
-    /** Whether the same text has this cell's piece directly behind that cell's. */
+    /** Whether the same text has this cell's piece directly after that cell's. */
     follows(before) {
         return this.#place === before.#place + 1;
     }
 }
 
-const blank = attributes => new Cell(' ', 1, attributes, NaN); // behind none
+const blank = attributes => new Cell(' ', 1, attributes, NaN); // after none
 /** A row of blanks, which is shared: `cells` are made where it is first written to. */
 const blankRow = (rest, attribute) =>
     Object.freeze({ cells: null, rest, attribute, version: 0 });
@@ -40,7 +40,7 @@ function cut({ cells, rest }, x) {
 export class Screen {
     surface = 0n;
     number = 0n;
-    #rows; // of the screen, behind those that left it by line feeds
+    #rows; // of the screen, after those that left it by line feeds
     #top; // how many left
     #place = 0; // of the last piece
 
@@ -62,7 +62,7 @@ export class Screen {
     }
 
     *cells(y) {
-        const { cells, rest } = this.rows[y]; // blanks are the rest behind the cells
+        const { cells, rest } = this.rows[y]; // blanks are the rest after the cells
         for (let x = 0, cell; x < this.width; x += cell.columns) {
             cell = cells?.[x] ?? rest;
             yield [x, cell];

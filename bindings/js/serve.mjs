@@ -75,7 +75,7 @@ export class Kept {
         this.relay = new Relay({ segment });
     }
 
-    /** Takes the stream's next bytes, cut anywhere. What is behind a fault is left out. */
+    /** Takes the stream's next bytes, cut anywhere. What is after a fault is left out. */
     put(bytes) {
         for (let at = 0; at < bytes.length && !this.isOver; at += AT_ONCE) {
             const part = bytes.subarray(at, at + AT_ONCE);

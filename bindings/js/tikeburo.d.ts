@@ -170,7 +170,7 @@ export class Client {
 }
 
 /**
- * The bytes of an ask for what lies behind this number of this surface; 0 and 0 for a repaint.
+ * The bytes of an ask for what lies after this number of this surface; 0 and 0 for a repaint.
  * Throws a `RangeError` where one is no integer from 0 to 2^64 - 1, or a double above 2^53 - 1, and
  * where the surface is 0 and the number isn't.
  */

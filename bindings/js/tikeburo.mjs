@@ -19,7 +19,7 @@ export class Client {
     fault = null;
     #bytes = new Uint8Array(); // of the coming answer
     #answer = null; // what is read of it
-    #wanted = 1; // it doesn't end before so many bytes
+    #wanted = 1; // it doesn't end before this many bytes
 
     constructor({
         cells = 1 << 20, rows = 1 << 16, bytes = 1 << 24, onanswer = null, onstale = null,
@@ -54,7 +54,7 @@ export class Client {
         return this.fault;
     }
 
-    /** Puts bytes behind those that are there, in a greater buffer where this one is full. */
+    /** Puts bytes after those that are there, in a greater buffer where this one is full. */
     #append(bytes) {
         const { buffer, byteOffset, length } = this.#bytes, end = length + bytes.length;
         let room = new Uint8Array(buffer, byteOffset);
@@ -66,7 +66,7 @@ export class Client {
         this.#bytes = room.subarray(0, end);
     }
 
-    /** Drops so many bytes: the next answer begins behind them. */
+    /** Drops this many bytes: the next answer begins after them. */
     #begin(length) {
         this.#bytes = this.#bytes.subarray(length);
         this.#answer = null;

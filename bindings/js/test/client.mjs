@@ -344,7 +344,7 @@ test('the texts of a repaint are cut as their sender cut them', () => {
     assert.deepEqual(paintedBy([2, 'éèéèéèéèéèéèé']), ['éèéèéèéèéèéè', 'é']);
 });
 
-/** The runs of pieces, of so many columns each. */
+/** The runs of pieces, of this many columns each. */
 function runsOf(pieces, columnsOf) {
     const runs = [];
     for (const piece of pieces) {

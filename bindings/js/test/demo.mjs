@@ -12,7 +12,7 @@ const at = (x, y) => [6, [1, x], [1, y]];
 const text = (string, ...runs) => (runs.length ? [2, string, runs] : [2, string]);
 const link = uri => [uri, false, []];
 
-/** Runs of a text whose pieces have so many characters and columns each. */
+/** Runs of a text whose pieces have this many characters and columns each. */
 const shown = (...parts) => text(parts.map(([piece]) => piece).join(''), ...parts.flatMap(
     ([piece, count, columns]) => [count, [...piece].length / count, columns]));
 

@@ -116,7 +116,7 @@ class Origin {
     }
 }
 
-/** Responses with some of the older ones again, before or behind them. */
+/** Responses with some of the older ones again, before or after them. */
 function shuffling(get) {
     const kept = [];
     return async (address, options) => {
@@ -164,7 +164,7 @@ function view(kind, edges) {
     return { kind, client, sources, end: pause(delay).then(() => pull(client, base, options)) };
 }
 
-/** Waits until all viewers that are there from the beginning have seen so many sources. */
+/** Waits until all viewers that are there from the beginning have seen this many sources. */
 async function haveSeen(views, count) {
     const isBehind = ({ kind, sources }) => kind === 'early' && sources.size < count;
     while (views.some(isBehind) && !over.signal.aborted) await pause(50);

@@ -468,7 +468,7 @@ class Asked {
         this.#match();
     }
 
-    /** Waits until so many asks have come. */
+    /** Waits until this many asks have come. */
     async until(count) {
         while (this.asks.length < count) await pause(10);
     }

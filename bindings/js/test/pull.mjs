@@ -19,7 +19,7 @@ const joined = (...parts) => Buffer.concat(parts.map(part => Buffer.from(part)))
 const pause = milliseconds => new Promise(done => setTimeout(done, milliseconds));
 const shown = ({ screen }) => (screen.width ? screen.text(0).trimEnd() : '');
 
-/** Does this while timers of so many milliseconds take a hundredth of them. */
+/** Does this while timers of this many milliseconds take a hundredth of them. */
 async function hasten(long, act) {
     const before = globalThis.setTimeout;
     globalThis.setTimeout = (done, milliseconds, ...words) =>

@@ -104,7 +104,7 @@ function judgeChange(hex) {
     EFFECTS[kind](screen, ...values);
 }
 
-/** A delta is behind a repaint that leads to its base. */
+/** A delta is after a repaint that leads to its base. */
 function judgeAnswer(hex) {
     const bytes = bytesOf(hex), [, surface, width, height, base, number, changes] = decode(bytes);
     const found = readHead(new Reader(bytes, Infinity));

@@ -1,6 +1,6 @@
 // The work of changes, as `encode` takes them: docs/VIEWER.md, "Limits".
 
-/** The work of a change on a screen of so many columns and rows. */
+/** The work of a change on a screen of this many columns and rows. */
 export function workOf([kind, ...items], width, height) {
     switch (kind) {
         case 2: return width * (items[0].split('\n').length - 1);

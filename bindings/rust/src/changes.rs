@@ -32,7 +32,7 @@ use std::fmt;
 #[derive(Clone, Default)]
 pub struct Changes {
     pub(crate) list: Vec<tk_change>,
-    /// The texts of all changes, behind one another.
+    /// The texts of all changes, one after another.
     pub(crate) texts: String,
     /// Whether the last change is a text that may still grow.
     pub(crate) is_open: bool,
@@ -168,7 +168,7 @@ impl Changes {
         self.position(Position::Absolute(column), Position::Absolute(row))
     }
 
-    /// Moves the cursor by so many columns and rows, below 0 to the left or up, as far as it goes.
+    /// Moves the cursor by these columns and rows, below 0 to the left or up, as far as it goes.
     pub fn move_by(&mut self, columns: isize, rows: isize) -> &mut Changes {
         self.position(Position::Relative(columns), Position::Relative(rows))
     }
@@ -343,7 +343,7 @@ impl Changes {
         self.with_background(ffi::CHANGE_CLEAR_TO_END_OF_LINE, background)
     }
 
-    /// Clears so many columns from the cursor on, and goes behind them. All is as after the other
+    /// Clears this many columns from the cursor on, and goes after them. All is as after the other
     /// clears, but they may end anywhere: blanks of this background are printed.
     ///
     /// ```
@@ -490,7 +490,7 @@ impl Changes {
         Ok(counts.number)
     }
 
-    /// What the library takes: the changes, and their texts behind one another.
+    /// What the library takes: the changes, and their texts one after another.
     pub(crate) fn as_parts(&self) -> (&[tk_change], &str) {
         (&self.list, &self.texts)
     }

@@ -91,7 +91,7 @@ fn measure<'a>(
     for cell in surface.row(0).cells() {
         let cell = cell?;
         let Some(after) = rest.strip_prefix(cell.str()) else {
-            break; // the blanks behind it
+            break; // the blanks after it
         };
         pieces.push((&rest[..cell.str().len()], cell.width()));
         rest = after;

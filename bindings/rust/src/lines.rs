@@ -73,7 +73,7 @@ impl Lines {
     ///
     /// # Errors
     ///
-    /// [`Error::Range`]: there are not so many.
+    /// [`Error::Range`]: there are not this many.
     pub fn remove_first(&mut self, count: usize) -> Result<(), Error> {
         self.remove(0..count)
     }

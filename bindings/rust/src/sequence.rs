@@ -160,7 +160,7 @@ impl ChangeSequence {
     }
 }
 
-/// The column or row that a position asks for, from a current one, of so many.
+/// The column or row that a position asks for, from a current one, of this many.
 fn aim(position: Position, from: i128, count: i128) -> i128 {
     match position {
         Position::Relative(distance) => from + distance as i128,

@@ -7,7 +7,7 @@ use std::mem;
 
 impl Attributes {
     /// Sets what the parameters of an SGR say, as terminals read them: each is a number with those
-    /// that follow it behind colons. The numbers of a colour may be parameters of their own, too.
+    /// that follow it after colons. The numbers of a colour may be parameters of their own, too.
     /// What has no meaning here changes nothing, and a link stays.
     ///
     /// ```
@@ -125,7 +125,7 @@ impl Display for Numbers {
     }
 }
 
-/// The kind of underline that `4` has behind it, or else the single one.
+/// The kind of underline that `4` has after it, or else the single one.
 fn read_underline(behind: &[u16]) -> Option<Underline> {
     let kind = u8::try_from(*behind.first().unwrap_or(&1)).ok()?;
     kind.try_into().ok()

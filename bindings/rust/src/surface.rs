@@ -342,7 +342,7 @@ impl Surface {
         Ok(self.last_since(number))
     }
 
-    /// Draws a line on a row: the row shows what the line does, cut or with blanks behind it. Where
+    /// Draws a line on a row: the row shows what the line does, cut or with blanks after it. Where
     /// there is no such row, nothing is drawn. Cursor and pen are as before. Returns the number of
     /// the last change that this takes, as [`Surface::add_changes`] does.
     ///
@@ -367,7 +367,7 @@ impl Surface {
 
     /// Copies what the region of this column, row, width and height shows to the region of this
     /// size at another column and row. Both are cut to what fits. Where it prints anything, the
-    /// cursor is behind what it printed last, and the pen is the one of that. Returns the number of
+    /// cursor is after what it printed last, and the pen is the one of that. Returns the number of
     /// the last change that this takes, as [`Surface::add_changes`] does.
     ///
     /// # Errors

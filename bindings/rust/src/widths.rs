@@ -27,7 +27,7 @@ impl Widths {
     }
 }
 
-/// The characters from the first to the last, each of so many columns.
+/// The characters from the first to the last, each of this many columns.
 #[repr(C)]
 #[derive(Clone, Copy, PartialEq, Eq, Hash, Debug)]
 pub struct WidthRange {

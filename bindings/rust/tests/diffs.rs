@@ -129,7 +129,7 @@ fn a_region_is_compared_with_one_of_its_own_screen() {
 }
 
 /// A client that is fed a repaint of one row: a text with no link, one with a link whose params are
-/// `id=7` and `x=`, with this value behind it.
+/// `id=7` and `x=`, with this value after it.
 fn linked(value: &[u8]) -> Client {
     let mut bytes = vec![0x87, 2, 1, 4, 1, 0, 3, 0x83, 0x82, 2, 0x61, b'a'];
     bytes.extend([0x82, 0, 0x82, 9, 0x83, 0x61, b'u', 0xf4, 0x82]);

@@ -306,7 +306,7 @@ fn check(model: &Model, screen: &Screen, what: &str) {
 
 /// Compares each text of a row. Where characters are measured one by one, those of a text may stand
 /// in columns of their own, and some texts are shown in another way: one that takes fewer columns
-/// has blanks behind it.
+/// has blanks after it.
 fn check_row(row: &[Glyph], wanted: &[Glyph], measure: Measure, what: &str) {
     if row
         .iter()
@@ -611,7 +611,7 @@ fn lines_may_be_large() {
     }
 }
 
-/// Fails behind so many bytes.
+/// Fails after this many bytes.
 struct Failing {
     left: usize,
 }

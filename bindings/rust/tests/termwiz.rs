@@ -44,7 +44,7 @@ fn surface((width, height): (usize, usize), changes: &[Change]) -> Surface {
     surface
 }
 
-/// The texts of all rows, each with '|' behind it.
+/// The texts of all rows, each with '|' after it.
 fn rows(screen: &Screen) -> String {
     screen.screen_chars_to_string().unwrap().replace('\n', "|")
 }

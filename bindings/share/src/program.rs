@@ -53,7 +53,7 @@ pub struct Program {
 }
 
 impl Program {
-    /// Runs a program, with its words behind it, in a terminal of this width and height.
+    /// Runs a program, with its words after it, in a terminal of this width and height.
     ///
     /// # Errors
     ///

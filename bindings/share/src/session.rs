@@ -62,7 +62,7 @@ pub struct Session {
     stage: Stage,
     is_closed: bool,         // the terminal, by the program
     has_ended: bool,         // the program
-    is_hurried: bool,        // by a signal, behind its end
+    is_hurried: bool,        // by a signal, after its end
     status: Option<u8>,      // of the program
     killed: Option<Instant>, // when the program is killed
     unrecorded: Option<io::Error>,

@@ -5,7 +5,7 @@ use std::time::{Duration, Instant};
 
 /// Between two ticks at least.
 const TICK: Duration = Duration::from_millis(33);
-/// How long the first output after a pause is held back, so that what comes right behind it is in
+/// How long the first output after a pause is held back, so that what comes right after it is in
 /// the same tick.
 const GATHER: Duration = Duration::from_millis(3);
 /// How often a tick comes where all is still, so that no proxy loses its patience.

@@ -191,7 +191,7 @@ function judgeWindow(output) {
     assert.match(output, /\x1b\[m[^m]*$/); // the pen
 }
 
-/** Starts `share` in a window, and notes the window's settings before and behind it. */
+/** Starts `share` in a window, and notes the window's settings before and after it. */
 async function startInWindow(own) {
     const [before, later] = ['before', 'later'].map(name => join(own, name));
     const shared = await start(Shared.inWindow(own, ['--no-wait', '--', ...keeper, MODES], {

@@ -1,6 +1,6 @@
 #!/usr/bin/env node
 // Measures what viewers cost `share`: `SHARE=PROGRAM node measure.mjs VIEWERS UPDATES [ENGINE]`.
-// A program makes so many updates a second, and as many viewers follow them, directly or behind an
+// A program makes UPDATES updates a second, and VIEWERS viewers follow them, directly or behind an
 // engine, `varnish` or `nginx`; then it writes 400 KB. It prints what the viewers got, what each
 // process took in processors and memory, and how long the program waited. It needs cc, and a file
 // for each viewer (`ulimit -n`).

@@ -5,7 +5,7 @@
  *   viewers PORT PATH COUNT SECONDS
  *
  * They ask the server at 127.0.0.1:PORT for PATH/SOURCE/NUMBER over connections that begin in the
- * first seconds, 2,000 in each. What comes in the SECONDS behind these is counted, and printed as
+ * first seconds, 2,000 in each. What comes in the SECONDS after these is counted, and printed as
  * one line of words and numbers. Late is a viewer by the time since the first one had a number. */
 #define _GNU_SOURCE
 #include <arpa/inet.h>

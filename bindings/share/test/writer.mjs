@@ -1,4 +1,4 @@
-// A program that writes so many updates a second, on lines that scroll, as a log does:
+// A program that writes this many updates a second, on lines that scroll, as a log does:
 // `node writer.mjs UPDATES`. At SIGUSR1 it writes 400 KB, and then how long that took.
 import { writeSync } from 'node:fs';
 

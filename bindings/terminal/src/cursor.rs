@@ -18,7 +18,7 @@ pub(crate) struct Cursor {
 }
 
 impl Cursor {
-    /// The column where the next character follows: the one behind the edge where a wrap is
+    /// The column where the next character follows: the one after the edge where a wrap is
     /// pending.
     pub(crate) fn end(&self) -> usize {
         self.x + usize::from(self.is_wrap_pending)

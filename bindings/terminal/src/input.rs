@@ -19,7 +19,7 @@ enum State {
     Ground,
     /// What `ESC` begins.
     Escape,
-    /// An escape sequence, behind its intermediate byte.
+    /// An escape sequence, after its intermediate byte.
     Intermediate,
     /// What `CSI` begins.
     Csi,
@@ -218,7 +218,7 @@ fn is_parameter(byte: &u8) -> bool {
 const LONGEST_STRING: usize = 1023;
 
 /// The number of bytes before the first control character, and whether they are ASCII. Eight bytes
-/// are tested at once, by their high bits: a carry only reaches bytes behind the one that is found.
+/// are tested at once, by their high bits: a carry only reaches bytes after the one that is found.
 fn measure_text(bytes: &[u8]) -> (usize, bool) {
     let each = |byte: u8| u64::from_ne_bytes([byte; 8]);
     let (mut length, mut high) = (0, 0);

@@ -61,7 +61,7 @@ pub struct Modes {
     pub auto_wrap: bool,
     /// The cursor blinks (`?12`).
     pub cursor_blink: bool,
-    /// Texts move the cells behind them to the right (`4`).
+    /// Texts move the cells after them to the right (`4`).
     pub insert: bool,
     /// A line feed goes to the first column, and Enter sends CR and LF (`20`).
     pub line_feed_new_line: bool,

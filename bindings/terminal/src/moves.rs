@@ -88,7 +88,7 @@ impl Emulator {
         }
     }
 
-    /// The column behind the last one that texts and moves to the right reach from the cursor.
+    /// The column after the last one that texts and moves to the right reach from the cursor.
     pub(crate) fn right_edge(&self) -> usize {
         let is_behind = self.cursor.x >= self.columns.end;
         if is_behind {

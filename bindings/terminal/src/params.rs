@@ -8,7 +8,7 @@ const MOST: u32 = u16::MAX as u32;
 
 const ESCAPE: u8 = 0x1b;
 
-/// The parameters of a `CSI`. Each is a number, and those that follow it behind colons.
+/// The parameters of a `CSI`. Each is a number, and those that follow it after colons.
 #[derive(Default)]
 pub(crate) struct Params {
     numbers: [u16; MOST_NUMBERS],
@@ -51,7 +51,7 @@ impl Params {
         self.number(0).max(1)
     }
 
-    /// The parameters, each with the numbers behind its colons.
+    /// The parameters, each with the numbers after its colons.
     pub(crate) fn iter(&self) -> impl Iterator<Item = &[u16]> {
         let mut rest = &self.numbers[..self.length];
         let mut colons = self.colons;
@@ -67,7 +67,7 @@ impl Params {
     }
 }
 
-/// What a sequence has beside its parameters: the mark before them and the intermediate byte behind
+/// What a sequence has beside its parameters: the mark before them and the intermediate byte after
 /// them, or 0 each.
 #[derive(Clone, Copy, PartialEq, Eq, Debug, Default)]
 pub(crate) struct Marks {

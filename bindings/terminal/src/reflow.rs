@@ -182,7 +182,7 @@ impl<'a> Wrapper<'a> {
         Ok(joined)
     }
 
-    /// The new row and column that are `offset` columns behind the beginning of row `start`.
+    /// The new row and column that are `offset` columns after the beginning of row `start`.
     fn find(&mut self, start: usize, offset: usize) -> Result<(usize, usize), Error> {
         let (mut line, mut column) = (start, offset);
         while line + 1 < self.new.len() {

@@ -36,7 +36,7 @@ impl Emulator {
         self.report(format_args!("\x1bP>|tikeburo({version})\x1b\\"));
     }
 
-    /// Reports that all is well, or the cursor's place, counted from 1, behind a mark. Returns
+    /// Reports that all is well, or the cursor's place, counted from 1, after a mark. Returns
     /// whether the kind of report is known.
     pub(crate) fn report_status(&mut self, kind: usize, mark: &str) -> bool {
         match kind {

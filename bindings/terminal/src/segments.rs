@@ -15,7 +15,7 @@ struct Segment {
 }
 
 /// A segment that later ones may undo: as it begins and ends with the default pen, and a move
-/// follows it, the changes behind it don't depend on it.
+/// follows it, the changes after it don't depend on it.
 struct Written {
     x: usize,
     y: usize,
@@ -97,7 +97,7 @@ impl Segments {
     }
 
     /// The ranges of changes that are to be dropped, in order: the first `count` ones, and those
-    /// behind them that others undo.
+    /// after them that others undo.
     pub(crate) fn undone(&mut self, count: usize) -> &[Range<usize>] {
         self.undone.retain(|range| range.start >= count);
         if count > 0 {

@@ -51,14 +51,14 @@ impl Shift {
 }
 
 impl Emulator {
-    /// Inserts `count` blanks at the cursor, and moves the cells behind them to the right.
+    /// Inserts `count` blanks at the cursor, and moves the cells after them to the right.
     pub(crate) fn insert_columns(&mut self, count: usize) {
         if let Some(shift) = self.shift_here() {
             shift.insert(count);
         }
     }
 
-    /// Deletes `count` columns at the cursor, and moves the cells behind them there.
+    /// Deletes `count` columns at the cursor, and moves the cells after them there.
     pub(crate) fn delete_columns(&mut self, count: usize) {
         if let Some(shift) = self.shift_here() {
             shift.delete(count);

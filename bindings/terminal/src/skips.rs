@@ -56,7 +56,7 @@ mod tests {
         for row in 1..=40 {
             assert_eq!(skips.scroll(1, 2 * row), row % DISTANCE == 0);
         }
-        // Rows 17 to 40 are on the screen, and so changes from behind those of row 16 on.
+        // Rows 17 to 40 are on the screen, and so changes from after those of row 16 on.
         assert_eq!(
             [24, 25, 40, 100].map(|height| skips.count(height)),
             [32, 24, 0, 0]

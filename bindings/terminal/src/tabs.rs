@@ -32,7 +32,7 @@ impl Tabs {
         self.stops.fill(false);
     }
 
-    /// The next stop behind a column, or else the last column.
+    /// The next stop after a column, or else the last column.
     pub(crate) fn next(&self, column: usize) -> usize {
         let last = self.stops.len() - 1;
         let mut behind = column + 1..last;

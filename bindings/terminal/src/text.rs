@@ -182,7 +182,7 @@ impl Last {
         !self.is_live || self.simple.is_some()
     }
 
-    /// The grapheme with a text behind it, where both are one.
+    /// The grapheme with a text after it, where both are one.
     pub(crate) fn joined(&self, text: &str) -> Option<String> {
         let joined = || [&self.text(), text].concat();
         let joined = self.is_live.then(joined)?;

@@ -76,7 +76,7 @@ fn another_size_keeps_the_row_of_the_cursor() {
     assert_eq!(rows(&terminal), ["2", "3ax", "", ""]);
     terminal.feed(b"\x1b[4H\n").unwrap(); // the margins are those of the screen
     assert_eq!(rows(&terminal), ["3ax", "", "", ""]);
-    // A text that was up to the right edge goes on behind it.
+    // A text that was up to the right edge goes on after it.
     let mut terminal = keeping(9, &["abcdef"]);
     terminal.resize(8, 3).unwrap();
     terminal.feed(b"gh\x1b[?1049hx").unwrap();

@@ -39,7 +39,7 @@ const FIRST: [(u8, u8, u8); 16] = [
 /// The steps of red, green and blue in the cube of colours, which begins at index 16.
 const LEVELS: [u8; 6] = [0, 95, 135, 175, 215, 255];
 
-/// Where the grey colours begin, behind the cube.
+/// Where the grey colours begin, after the cube.
 const GREYS: PaletteIndex = 232;
 
 impl Colors {

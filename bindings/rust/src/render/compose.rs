@@ -118,7 +118,7 @@ impl Renderer {
         rows::write(terminal, options, &shown, wanted);
     }
 
-    /// Puts the cursor where the screen has it. One behind the last column is in the last one.
+    /// Puts the cursor where the screen has it. One after the last column is in the last one.
     fn write_cursor(&mut self, screen: &Screen, lines: &[Rc<Line>]) {
         let (column, row) = screen.cursor_position();
         let row = row.min(lines.len() - 1);

@@ -42,14 +42,14 @@ struct Cell {
 }
 
 impl Line {
-    /// A row of so many default blanks.
+    /// A row of this many default blanks.
     pub fn blank(columns: usize, attribute: Option<LineAttribute>) -> Line {
         let mut line = Line::empty(columns, attribute);
         line.push_blanks(columns, 0, false);
         line
     }
 
-    /// A row that has no column yet, and room for so many.
+    /// A row that has no column yet, and room for this many.
     fn empty(columns: usize, attribute: Option<LineAttribute>) -> Line {
         Line {
             text: String::with_capacity(columns),
@@ -60,7 +60,7 @@ impl Line {
         }
     }
 
-    /// What a row of a screen shows on a terminal, cut or with blanks behind it.
+    /// What a row of a screen shows on a terminal, cut or with blanks after it.
     ///
     /// # Errors
     ///

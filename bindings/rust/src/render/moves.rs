@@ -73,7 +73,7 @@ fn along_column(from: usize, to: usize) -> String {
     shorter(relative, absolute)
 }
 
-/// The sequence of this code for so many columns or rows.
+/// The sequence of this code for this many columns or rows.
 pub(super) fn by(count: usize, code: char) -> String {
     if count == 1 {
         format!("\x1b[{code}")

@@ -86,7 +86,7 @@ pub(super) fn scroll(
 }
 
 /// Where the rows begin that are erased at once: those at the end that are all blanks of one pen,
-/// where two at least differ. Else that is behind the last row.
+/// where two at least differ. Else that is after the last row.
 fn blank_end(options: &Options, wanted: &[Rc<Line>], rows: &[Vec<bool>]) -> usize {
     let height = wanted.len();
     let Some(last) = wanted.last().filter(|_| !options.line_attributes) else {

@@ -13,7 +13,7 @@ const LINES: isize = 8;
 /// What it takes to erase blanks.
 const ERASE: isize = 3;
 
-/// A scroll by so many rows of those from the top to the bottom one, which is none of them.
+/// A scroll by this many rows of those from the top to the bottom one, which is none of them.
 #[derive(Clone, Copy, PartialEq, Eq, Debug)]
 pub(super) struct Scroll {
     pub top: usize,
@@ -107,7 +107,7 @@ impl Search<'_> {
         rows.map(|line| cost(line, &blank)).collect()
     }
 
-    /// What the rows take that a scroll of all by so many would bring.
+    /// What the rows take that a scroll of all by this many would bring.
     fn brought(&self, count: usize, up: bool) -> isize {
         let (to, from) = places(count, up);
         let rows = 0..self.shown.len() - count;
@@ -120,13 +120,13 @@ impl Search<'_> {
         self.wanted[row] == self.shown[from]
     }
 
-    /// The scroll by so many rows that saves the most, and what it saves.
+    /// The scroll by this many rows that saves the most, and what it saves.
     fn best_by(&self, count: usize, up: bool, blank_costs: &[isize]) -> (isize, Scroll) {
         let height = self.shown.len();
         let (to, from) = places(count, up);
         let blanks = self.blanks_saved(count, blank_costs);
         // The rows that are moved are those from `begin` to `end`, and `sum` is what all before
-        // `end` save. Blanks come in behind them, or before them.
+        // `end` save. Blanks come in after them, or before them.
         let (mut begin, mut most_before, mut sum) = (0, isize::MIN, 0);
         let mut best = (isize::MIN, 0..0);
         for end in 1..=height - count {
@@ -162,7 +162,7 @@ impl Search<'_> {
         }
     }
 
-    /// For each row what is saved where so many from there on are blank: nothing, or less.
+    /// For each row what is saved where this many from there on are blank: nothing, or less.
     fn blanks_saved(&self, count: usize, blank_costs: &[isize]) -> Vec<isize> {
         let pairs = self.costs.iter().zip(blank_costs);
         let saved: Vec<_> = pairs.map(|(cost, blank)| (cost - blank).min(0)).collect();

@@ -112,7 +112,7 @@ impl Terminal {
         }
     }
 
-    /// Prints a text of so many columns on a row that has `width` columns. Behind the last one the
+    /// Prints a text of `columns` columns on a row that has `width` of them. After the last one the
     /// terminal's column is unknown, since a wrap may be pending.
     pub fn print(&mut self, text: &str, columns: usize, width: usize) {
         self.push(text);
@@ -123,7 +123,7 @@ impl Terminal {
         };
     }
 
-    /// Prints a text that takes other columns on some terminals. The column behind it is unknown,
+    /// Prints a text that takes other columns on some terminals. The column after it is unknown,
     /// and where it might wrap, it doesn't.
     pub fn print_uncertain(&mut self, text: &str, row: usize, might_wrap: bool) {
         if might_wrap {
@@ -178,7 +178,7 @@ impl Terminal {
         self.push("\x1b[K");
     }
 
-    /// Erases so many columns from the cursor on.
+    /// Erases this many columns from the cursor on.
     pub fn erase_columns(&mut self, count: usize) {
         self.push(&by(count, 'X'));
     }

@@ -13,7 +13,7 @@ pub(super) struct Shown<'a> {
     pub columns: usize,
 }
 
-/// The text to send for a cell of so many columns. Control characters are left out. A text whose
+/// The text to send for a cell of this many columns. Control characters are left out. A text whose
 /// first character takes no column stands on a space, which it joins, or else is left out. Blanks
 /// are added to what is too short, or replace what is too long.
 ///
@@ -56,7 +56,7 @@ fn width(character: char, widths: Widths) -> usize {
     text_width(character.encode_utf8(&mut [0; 4]), widths)
 }
 
-/// Whether what is printed behind a text would be one grapheme with it.
+/// Whether what is printed after a text would be one grapheme with it.
 ///
 /// # Errors
 ///

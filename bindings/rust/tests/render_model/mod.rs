@@ -492,7 +492,7 @@ impl Model {
     }
 }
 
-/// The colour that these numbers name, behind 38 or its siblings.
+/// The colour that these numbers name, after 38 or its siblings.
 fn color<'a>(numbers: &mut impl Iterator<Item = &'a str>) -> ColorAttribute {
     let mut number = || numbers.next().unwrap().parse::<u8>().unwrap();
     match number() {

@@ -16,7 +16,7 @@ use std::time::{Duration, Instant};
 use tokio::net::{TcpListener, TcpSocket, TcpStream};
 use tokio::time;
 
-const LONGEST_HEAD: usize = 8192; // bytes; and so many wait to be sent
+const LONGEST_HEAD: usize = 8192; // bytes; and this many wait to be sent
 const WAITING: u32 = 4096; // connections that aren't taken yet
 const PATIENCE: u32 = 60_000; // milliseconds in which a viewer has to take bytes
 const SWEEP: Duration = Duration::from_secs(1);

@@ -1,5 +1,5 @@
 //! Prints the screen that its input leaves on a terminal, and says how long that took. With `log`
-//! behind the size the surface keeps its changes, as for viewers. With `keep` and a number there,
+//! after the size the surface keeps its changes, as for viewers. With `keep` and a number there,
 //! the terminal keeps that many of the rows that scroll off last, and says how many it has.
 //!
 //! `python3 examples/terminal/frames.py 100 | cargo run --release --example terminal -- 80 24`

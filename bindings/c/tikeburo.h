@@ -14,7 +14,8 @@
  *   be moved, as by memcpy or realloc, and not used twice: a call takes it at its new place alone.
  *   tk_free frees what it has, and may be called again; the handle may then be used for another
  *   value.
- * - One call at a time has a handle. A handle stays on its thread.
+ * - One call at a time has a handle, on any thread. No two handles share memory, so that calls with
+ *   others may run meanwhile.
  * - A pointer is never NULL, also where its length is 0, unless a call says that it may be. A
  *   length is not above what lies at the pointer, buffers don't overlap, and nothing that a call
  *   reads is written meanwhile.

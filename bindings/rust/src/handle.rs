@@ -8,8 +8,17 @@ use std::ptr;
 /// A handle on a surface, a viewer, a client or lines, which is freed at its end.
 ///
 /// Calls that read write the handle too, so that it lies in a cell. One call at a time has it: no
-/// call runs code of a caller's, and the pointer keeps the handle on its thread.
+/// call runs code of a caller's, and the pointer and the cell keep the handle from being used by two
+/// threads at once, since it isn't `Sync`.
 pub(crate) struct Handle(UnsafeCell<tk_handle>);
+
+// Safety: while no call runs, all that a handle's pointer leads to, links and the counts of those
+// that share them included, is reached from this handle alone. A call that takes two handles is
+// given both by references, so that both are on its thread, and leaves in one only copies of the
+// other's links. The library has no static that is written, and nothing of a thread's own. Its
+// memory is that of `malloc`, which any thread may free. A table of widths is `'static`, and is
+// never written. The proofs speak of one thread: what moves a handle to another orders the calls.
+unsafe impl Send for Handle {}
 
 impl Handle {
     /// A handle on what this call makes in it.

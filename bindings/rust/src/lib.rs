@@ -40,18 +40,33 @@
 //!
 //! # Threads
 //!
-//! A [`Surface`], a [`Viewer`], a [`Client`] and [`Lines`] stay on the thread that made them: they
-//! are neither `Send` nor `Sync`. Cells that have one link share it, also with those of another
-//! surface that this one was drawn on, of its viewers and of its kept lines. How many do is counted
-//! by a number that isn't atomic, which two threads might change at once.
+//! A [`Surface`], a [`Viewer`], a [`Client`] and [`Lines`] may move to another thread: they are
+//! `Send`, and no two of them share memory. They are not `Sync`, since calls that read write too:
+//! where threads take turns, a `Mutex` has them.
 //!
-//! ```compile_fail,E0277
-//! fn send<T: Send>(_: T) {}
-//! send(tikeburo::Surface::new(80, 24));
+//! ```
+//! use std::{sync::Mutex, thread};
+//! use tikeburo::{Error, Surface};
+//!
+//! let surface = Mutex::new(Surface::new(8, 2)?);
+//! thread::scope(|scope| {
+//!     for text in ["one ", "two "] {
+//!         let surface = &surface;
+//!         scope.spawn(move || surface.lock().unwrap().add_change(text).map(drop));
+//!     }
+//! });
+//! let shown = surface.into_inner().unwrap().row(0).text()?;
+//! assert!(shown == "one two " || shown == "two one ");
+//! # Ok::<(), Error>(())
 //! ```
 //!
-//! Texts, changes, asks and answers go anywhere. So one thread makes a surface and owns it, and
-//! others send it what they want; this is `examples/owner.rs`:
+//! ```compile_fail,E0277
+//! fn share<T: Sync>(_: T) {}
+//! share(tikeburo::Surface::new(80, 24));
+//! ```
+//!
+//! One thread may also own a surface, and others send it what they want; this is
+//! `examples/owner.rs`:
 //!
 //! ```
 #![doc = include_str!("../examples/owner.rs")]

@@ -77,7 +77,7 @@ use line::Line;
 use pen::Pen;
 use std::fmt;
 use std::io::Write;
-use std::rc::Rc;
+use std::sync::Arc;
 use terminal::Terminal;
 use version::Version;
 
@@ -85,7 +85,7 @@ use version::Version;
 ///
 /// Each write is one call of [`Write::write_all`], and one of [`Write::flush`]. Nothing is written
 /// where the terminal lacks nothing. A new renderer takes it that the terminal may show anything,
-/// and that its cursor has its own shape and colour. It stays on its thread, as a surface does.
+/// and that its cursor has its own shape and colour.
 pub struct Renderer {
     options: Options,
     terminal: Terminal,
@@ -98,7 +98,7 @@ pub struct Renderer {
 
 /// The rows of a terminal, and the version of the screen of which they were read.
 struct Shown {
-    lines: Vec<Rc<Line>>,
+    lines: Vec<Arc<Line>>,
     version: Version,
 }
 

@@ -406,3 +406,13 @@ fn a_copy_shows_what_the_screen_showed() {
     narrow.draw_from_screen(&copy, 0, 0).unwrap();
     assert_eq!(rows(&narrow), ["ab"]);
 }
+
+#[test]
+fn what_has_a_handle_is_send() {
+    fn is_send<T: Send>() {}
+    is_send::<tikeburo::Surface>();
+    is_send::<tikeburo::Client>();
+    is_send::<tikeburo::Viewer>();
+    is_send::<tikeburo::Lines>();
+    is_send::<tikeburo::render::Renderer>();
+}

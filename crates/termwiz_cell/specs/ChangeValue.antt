@@ -1,5 +1,5 @@
 -- What a change says, with its texts as bytes and its attributes as values.
-use Rattle.std.specs.Prelude.{◌≡◌, ℕ, Bool, true, false, List, string_bytes, refl}
+use Rattle.std.specs.Prelude.{◌≡◌, ℕ, Bool, true, false, List, string_bytes, refl, is_some}
 use Rattle.std.specs.Bool.{Decides}
 use Rattle.termwiz_cell.specs.declared.color.ColorAttribute.{ColorAttribute}
 use Rattle.termwiz_cell.specs.Attributes.{Attributes, needs_box}
@@ -68,3 +68,9 @@ pub visibility_eq-Decides : (a b : cursor.CursorVisibility) → Decides (visibil
 visibility_eq-Decides Hidden Hidden = ((λ _. refl), (λ _. refl))
 visibility_eq-Decides Visible Visible = ((λ _. refl), (λ _. refl))
 visibility_eq-Decides _ _ = ((λ e. cc), (λ e. cc))
+
+-- it sets a link
+abbrev pub sets_link : ChangeValue → Bool
+sets_link (Attribute change) = is_link change
+sets_link (AllAttributes attrs) = is_some attrs.hyperlink
+sets_link _ = false

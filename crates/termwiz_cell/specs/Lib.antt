@@ -44,7 +44,7 @@ pub use Rattle.termwiz_cell.specs.AttributeChangeValue.{attribute_change_value, 
 pub use Rattle.termwiz_cell.specs.Attributes.{attributes_eq, attributes_eq-Decides, bits_of, color_eq, default_attributes, has_only_background, is_default, needs_box, option_link_eq, sgr_only, without_colors}
 pub use Rattle.termwiz_cell.specs.CellLayout.{HasTextForm, text_in, wide_in}
 pub use Rattle.termwiz_cell.specs.CellValue.{blank, blank_of, cell_eq, cell_eq-Decides, cell_of, clean, columns, is_wide, measured, owns_memory, plain_cell, space}
-pub use Rattle.termwiz_cell.specs.ChangeValue.{Attribute, LineAttribute, Text, change_value, copy_takes_memory, is_text}
+pub use Rattle.termwiz_cell.specs.ChangeValue.{Attribute, LineAttribute, Text, change_value, copy_takes_memory, is_text, sets_link}
 pub use Rattle.termwiz_cell.specs.ColorText.{IsByte, IsColorText, IsDigit, IsHexColor, IsPart, IsX11Color, color_of, rgb_text, x11_text}
 pub use Rattle.termwiz_cell.specs.Link.{link_eq, link_eq-Decides, linked, param_bytes, param_eq}
 pub use Rattle.termwiz_cell.specs.LinkPairs.{are_pairs, has_equals, pair_of, params_of, with_pair}

@@ -1,14 +1,16 @@
 //! The changes of a surface, the positions in them, and their numbers.
-ghost use Rattle.std.specs.Prelude.{◌≡◌, ◌<◌, IfOk, IsTrue, false, string_bytes};
+ghost use Rattle.std.specs.Prelude.{◌≡◌, ◌<◌, IfOk, IsOk, IsTrue, false, map, string_bytes};
+ghost use Rattle.std.specs.List.{list_any};
 ghost use Rattle.termwiz_cell.specs.{Attribute, LineAttribute, Text, attribute_change_value};
 ghost use Rattle.termwiz_cell.specs.{IsNumbered, change_value, copy_takes_memory};
 ghost use Rattle.termwiz_cell.specs.{is_blinking_shape, is_text, line_at, line_number};
-ghost use Rattle.termwiz_cell.specs.{shape_at, shape_number};
+ghost use Rattle.termwiz_cell.specs.{sets_link, shape_at, shape_number};
 
 mod sequence;
 
 use crate::cell::{AttributeChange, CellAttributes, UnknownNumber};
 use crate::color::ColorAttribute;
+use crate::hyperlink::LinkCopies;
 pub use sequence::{ChangeSequence, SequenceError};
 use std::alloc::{AllocError, Global};
 
@@ -263,6 +265,29 @@ impl Clone for Change {
 }
 
 impl Change {
+    /// Whether it sets a link.
+    pub fn sets_link(&self) -> bool
+        ensures { result ≡ sets_link (change_value self.now) }
+    {
+        match self {
+            Change::AllAttributes(attrs) => attrs.hyperlink().is_some(),
+            Change::Attribute(AttributeChange::Hyperlink(link)) => link.is_some(),
+            _ => false,
+        }
+    }
+
+    /// Gives it a link of its own, if it sets one. It stays as it is, even after an error.
+    pub fn own_link(&mut self, alloc: Global, copies: &mut LinkCopies) -> Result<(), AllocError>
+        ensures same { change_value self.new ≡ change_value self.old }
+        ensures succeeds { sets_link (change_value self.old) ≡ false → IsOk result }
+    {
+        match self {
+            Change::AllAttributes(attrs) => attrs.own_link(alloc, copies),
+            Change::Attribute(change) => change.own_link(alloc, copies),
+            _ => Ok(()),
+        }
+    }
+
     /// A change that prints a copy of this text.
     pub fn text_from(alloc: Global, text: &str) -> Result<Change, AllocError>
         ensures { IfOk result (λ change. change_value change ≡ Text text.now) }
@@ -313,4 +338,25 @@ impl From<LineAttribute> for Change {
     fn from(attribute: LineAttribute) -> Change {
         Change::LineAttribute(attribute)
     }
+}
+
+/// Whether one of the changes sets a link.
+pub fn any_sets_link(changes: &[Change]) -> bool
+    ensures { result ≡ list_any (λ c. sets_link (change_value c)) changes.now }
+{
+    changes.iter().any(|change| change.sets_link())
+}
+
+/// Gives the changes links of their own. Each stays as it is, even after an error.
+pub fn own_links(
+    alloc: Global,
+    changes: &mut [Change],
+    copies: &mut LinkCopies,
+) -> Result<(), AllocError>
+    ensures { map change_value changes.new ≡ map change_value changes.old }
+{
+    for change in changes.iter_mut() {
+        change.own_link(alloc, copies)?;
+    }
+    Ok(())
 }

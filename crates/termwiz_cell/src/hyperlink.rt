@@ -1,4 +1,5 @@
 //! Links: a target, params, and the text that the escape sequence OSC 8 has for them.
+mod copies;
 mod params;
 
 ghost use Rattle.std.specs.Prelude.{◌≡◌, ◌≢◌, ◌↔◌, ◌∷◌, [], IfSome, MatchResult, map, string_bytes};
@@ -8,6 +9,7 @@ ghost use Rattle.termwiz_cell.specs.{codes, decided, false, length, link_eq, lin
 ghost use Rattle.termwiz_cell.specs.{link_text, param_bytes, partial_equiv_from_equiv, true};
 ghost use Rattle.termwiz_cell.specs.Link.{Link};
 
+pub use copies::LinkCopies;
 use params::{clone_params, has_same_params, is_pairs, read_params, write_params};
 use std::alloc::{AllocError, Global};
 use std::collections::BTreeMap;

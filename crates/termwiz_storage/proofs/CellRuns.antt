@@ -25,6 +25,12 @@ last_read [] x d i e = rw (← e) refl
 last_read (y ∷ front) x d zero e = absurd (omega arith)
 last_read (y ∷ front) x d (suc i) e = last_read front x d i (omega arith)
 
+-- a run of as many cells with the same attributes in a run's place
+pub attrs_of-set_same : (rs : List AttrsRun) (i : ℕ) (r d : AttrsRun) → same_run (get_or rs i d) r → attrs_of (set rs i r) ≡ attrs_of rs
+attrs_of-set_same [] i r d same = refl
+attrs_of-set_same (x ∷ xs) zero r d same = ap₂ (λ (n : ℕ) (a : Attributes). replicate n a ++ attrs_of xs) same.1 same.0
+attrs_of-set_same (x ∷ xs) (suc i) r d same = ap (λ (ys : List Attributes). replicate x.cells x.attrs ++ ys) (attrs_of-set_same xs i r d same)
+
 -- copies of runs are runs of the same attributes
 pub attrs_of-copied : (rs qs : List AttrsRun) → AllZip same_run rs qs → attrs_of qs ≡ attrs_of rs
 attrs_of-copied [] [] h = refl

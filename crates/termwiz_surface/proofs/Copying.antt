@@ -25,6 +25,14 @@ module _ {W : Type 0} (f : List ℕ → ℕ) (old new : SurfaceValue W) where
       subst (λ cs. Adds f old cs (next_number old.log - 1 + length cs) result new) is
       (subst (λ n. Adds f old (map change_value l.items) (next_number old.log - 1 + n) result new) (l.ok.0 ∙ sym (length-map l.items change_value)) a)
 
+  -- a list that sets the cursor and the pen back as a method sees them, and is counted by its values
+  pub Adds-restored : (self : SurfaceValue W) (l : List ChangeValue) (changes : List ChangeValue) (result : Result ℕ SurfaceError) → self ≡ old → l ≡ restoring self.x self.y self.pen changes →
+      Adds f old l (next_number old.log - 1 + length l) result new →
+      let restored = restoring old.x old.y old.pen changes in Adds f old restored (next_number old.log - 1 + length restored) result new
+  Adds-restored self l changes result is items a =
+      subst (λ cs. Adds f old cs (next_number old.log - 1 + length cs) result new)
+      (subst (λ (v : SurfaceValue W). l ≡ restoring v.x v.y v.pen changes) is items) a
+
   -- a list that sets the cursor and the pen back as a method sees them
   pub Adds-restoring : (self : SurfaceValue W) (l : Vec Change Global) (changes : List ChangeValue) (result : Result ℕ SurfaceError) → self ≡ old → map change_value l.items ≡ restoring self.x self.y self.pen changes →
       Adds f old (map change_value l.items) (next_number old.log - 1 + vec_len l) result new →

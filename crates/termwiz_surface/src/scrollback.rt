@@ -6,6 +6,7 @@ ghost use Rattle.termwiz_surface.specs.{blank, spare_lines};
 use std::alloc::{AllocError, Global};
 use std::collections::VecDeque;
 use termwiz_cell::change::SEQ_ZERO;
+use termwiz_cell::hyperlink::LinkCopies;
 use termwiz_line::line::line::Line;
 
 /// Lines outside of a screen, as a program's scrollback: `add_changes_scrolling` and
@@ -19,6 +20,8 @@ pub struct Scrollback {
     pub lines: VecDeque<Line>,
     // Lines that were removed, whose memory new rows take.
     spare: Vec<Line>,
+    // Copies of the links of its last lines.
+    links: LinkCopies,
 }
 
 impl Scrollback {
@@ -30,6 +33,7 @@ impl Scrollback {
         Scrollback {
             lines: VecDeque::new(alloc),
             spare: Vec::new(alloc),
+            links: LinkCopies::new(),
         }
     }
 
@@ -78,6 +82,16 @@ impl Scrollback {
             // Where memory is refused, the line goes.
             let _ = self.spare.push(line);
         }
+    }
+
+    /// Gives a line that is to be added links of its own: it shares no memory then with what it
+    /// comes from. It stays as it is, even after an error.
+    pub fn own_links(&mut self, line: &mut Line) -> Result<(), AllocError>
+        ensures line { line.new ≡ line.old }
+        ensures lines { self.new.lines ≡ self.old.lines }
+        ensures spare { spare_lines self.new ≡ spare_lines self.old }
+    {
+        line.own_links(&mut self.links)
     }
 
     // A row of default blanks, in the memory of a spare line where there is one.

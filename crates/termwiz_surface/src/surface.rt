@@ -4,7 +4,7 @@ ghost use Rattle.termwiz_surface.specs.{IsSurfaceSize, Preserves, SameFrame, bla
 ghost use Rattle.termwiz_surface.specs.{blank_surface_from};
 ghost use Rattle.termwiz_surface.specs.{change_value, next_number, region_fits, regions_fit};
 ghost use Rattle.termwiz_surface.specs.{IsSound, Makes, Refuses, false, measure};
-ghost use Rattle.termwiz_surface.specs.{Adds, IsOk, NumbersRows, OnOk, map, true};
+ghost use Rattle.termwiz_surface.specs.{Adds, IsOk, NumbersRows, OnOk, map, stream_of, true};
 ghost use Rattle.termwiz_surface.specs.declared.surface.NewSurfaceError.TheVariants as errors;
 
 mod answer;
@@ -23,17 +23,20 @@ mod sized;
 mod steps;
 mod unlogged;
 
+use crate::view::copied;
 pub use answer::Answer;
 use numbers::RowNumbers;
 use std::alloc::{AllocError, Global};
+use std::borrow::CowSlice;
 use std::collections::VecDeque;
 use std::marker::Model;
 use std::slice;
 use termwiz_cell::cell::CellAttributes;
-use termwiz_cell::change::Change;
+use termwiz_cell::change::{Change, any_sets_link, own_links};
 pub use termwiz_cell::change::{CursorShape, CursorVisibility, Position, SEQ_ZERO, SequenceNo};
 use termwiz_cell::color::ColorAttribute;
 use termwiz_cell::emoji::Widths;
+use termwiz_cell::hyperlink::LinkCopies;
 use termwiz_line::line::line::Line;
 pub use termwiz_screen::full::FullScreen;
 use termwiz_screen::log::Log;
@@ -347,6 +350,47 @@ impl<W: Widths> Surface<W> {
         Ok(())
     }
 
+    // Applies the changes, with links of the surface's own in place of theirs, and logs them.
+    fn make_linked(&mut self, changes: Vec<Change>) -> Result<(), AllocError>
+        requires fits { regions_fit self.old.height (map change_value changes.items) ≡ true }
+        requires numbers { next_number self.old.log + vec_len changes < 2 ^ 64 }
+        ensures ok { OnOk result (Makes (measure W.width_of self.old.widths)
+            self.old (map change_value changes.items) self.new) }
+        ensures err { OnErr result (SameFrame self.old self.new) }
+        ensures none { vec_len changes ≡ 0 → NumbersRows self.old self.new }
+    {
+        let mut changes = changes;
+        own_links(self.alloc, &mut changes, &mut LinkCopies::new())?;
+        self.make_all(changes)
+    }
+
+    // Applies the changes as `make_linked` does. Those that set no link need no copies.
+    fn make_own(&mut self, changes: CowSlice<'_, Change>) -> Result<(), AllocError>
+        requires fits { regions_fit self.old.height (stream_of changes) ≡ true }
+        requires numbers { next_number self.old.log + length (stream_of changes) < 2 ^ 64 }
+        ensures ok { OnOk result (Makes (measure W.width_of self.old.widths)
+            self.old (stream_of changes.entry) self.new) }
+        ensures err { OnErr result (SameFrame self.old self.new) }
+        ensures some { OnErr result (0 < length (stream_of changes.entry)) }
+        ensures none { length (stream_of changes.entry) ≡ 0 → NumbersRows self.old self.new }
+    {
+        match changes {
+            CowSlice::Borrowed(lent) => {
+                if !any_sets_link(lent) {
+                    return self.make_lent(lent);
+                }
+                let copies = copied(self.alloc, CowSlice::Borrowed(lent))?;
+                self.make_linked(copies)
+            }
+            CowSlice::Owned(list) => {
+                if !any_sets_link(&list) {
+                    return self.make_all(list);
+                }
+                self.make_linked(list)
+            }
+        }
+    }
+
     /// Applies one change, and returns its number. `ScrollRegion`, `Numbers`: the surface is
     /// unchanged. `Memory`: the change may be applied in part; the surface is valid and has its old
     /// size, its log is empty, and its number is greater by one, or still 0.
@@ -401,6 +445,27 @@ impl<W: Widths> Surface<W> {
         self.refuse(changes)?;
         let number = number_for(self.log.next_number(), changes.len());
         if self.make_lent(changes).is_err() {
+            self.restart();
+            return Err(SurfaceError::Memory);
+        }
+        Ok(number)
+    }
+
+    /// Makes the changes in order, as `add_changes` does, with links of the surface's own in place
+    /// of theirs: it shares no memory with what lent or made them.
+    pub(crate) fn add_own_changes(
+        &mut self,
+        changes: CowSlice<'_, Change>,
+    ) -> Result<SequenceNo, SurfaceError>
+        ensures adds { Adds (measure W.width_of self.old.widths)
+            self.old (stream_of changes.entry)
+            (next_number self.old.log - 1 + length (stream_of changes.entry)) result self.new }
+        // Viewers, numbers and rows hold, even after an error.
+        ensures preserves { Preserves (measure W.width_of) self.old self.new }
+    {
+        self.refuse(changes.as_slice())?;
+        let number = number_for(self.log.next_number(), changes.as_slice().len());
+        if self.make_own(changes).is_err() {
             self.restart();
             return Err(SurfaceError::Memory);
         }

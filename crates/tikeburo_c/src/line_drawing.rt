@@ -14,6 +14,8 @@ use crate::kept::Kept;
 use crate::line_list::LineList;
 use crate::widths::ChosenWidths;
 use std::alloc::{AllocError, Global};
+use termwiz_cell::change::own_links;
+use termwiz_cell::hyperlink::LinkCopies;
 use termwiz_share::Source;
 use termwiz_surface::{CellAttributes, Change, Line, Position, Surface};
 
@@ -40,6 +42,7 @@ fn restored(
 
 // The changes that draw a line on a row.
 fn line_drawing(
+    alloc: Global,
     surface: &Surface<ChosenWidths>,
     row: usize,
     line: &Line,
@@ -50,20 +53,29 @@ fn line_drawing(
     // Every surface is valid.
     let _size = surface.dimensions();
     let printed = surface.diff_against_numbered_line(row, line)?;
-    restored(printed, surface.cursor_position(), surface.pen())
+    let mut changes = restored(printed, surface.cursor_position(), surface.pen())?;
+    // The surface shares no memory with the line.
+    own_links(alloc, &mut changes, &mut LinkCopies::new())?;
+    Ok(changes)
 }
 
-fn draw_line(surface: &mut Source<ChosenWidths>, row: usize, line: &Line) -> Result<(), Failure>
+fn draw_line(
+    alloc: Global,
+    surface: &mut Source<ChosenWidths>,
+    row: usize,
+    line: &Line,
+) -> Result<(), Failure>
     ensures { DrawsLine row line.now.cells surface.old result surface.new }
 {
     if !surface.surface().measures(line) {
         return Err(Failure::OtherWidths);
     }
-    let changes = line_drawing(surface.surface(), row, line)?;
+    let changes = line_drawing(alloc, surface.surface(), row, line)?;
     add_list(surface, changes)
 }
 
 fn draw_line_at(
+    alloc: Global,
     surface: &mut Source<ChosenWidths>,
     row: usize,
     list: &LineList,
@@ -72,7 +84,7 @@ fn draw_line_at(
     ensures { DrawsOne row index list.now surface.old result surface.new }
 {
     let line = list.line_at(index)?;
-    draw_line(surface, row, line)
+    draw_line(alloc, surface, row, line)
 }
 
 fn draw_kept(
@@ -87,7 +99,7 @@ fn draw_kept(
 {
     let list = lines.lines()?;
     on_surface(alloc, handle, |surface| {
-        draw_line_at(surface, row, list, index)
+        draw_line_at(alloc, surface, row, list, index)
     })
 }
 

@@ -80,7 +80,8 @@ fn push_row(list: &mut LineList, surface: &Surface<ChosenWidths>, row: usize) ->
     ensures { Pushes row surface.now list.old result list.new }
 {
     let line = line_at(surface, row)?;
-    let copy = line.clone()?;
+    let mut copy = line.clone()?;
+    list.scrollback.own_links(&mut copy)?;
     list.push(copy)?;
     Ok(())
 }

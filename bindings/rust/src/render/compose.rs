@@ -9,7 +9,7 @@ use crate::change::{CursorVisibility, LineAttribute};
 use crate::screen::Screen;
 use crate::surface::{self, Surface};
 use std::io::Write;
-use std::rc::Rc;
+use std::sync::Arc;
 
 impl Renderer {
     pub(super) fn new_surface(&self) -> Result<Surface, crate::Error> {
@@ -57,11 +57,11 @@ impl Renderer {
     }
 
     /// Clears the terminal, and returns what it shows then.
-    fn cleared(&mut self) -> Vec<Rc<Line>> {
+    fn cleared(&mut self) -> Vec<Arc<Line>> {
         self.terminal.clear();
         let usual = (!self.options.line_attributes).then_some(LineAttribute::SingleWidthLine);
         let (width, height) = self.options.size();
-        let blank = Rc::new(Line::blank(width, usual));
+        let blank = Arc::new(Line::blank(width, usual));
         vec![blank; height]
     }
 
@@ -80,7 +80,7 @@ impl Renderer {
         for row in 0..self.options.height {
             let is_same = changed.get(row) == Some(&false);
             let line = match old.get(row) {
-                Some(line) if is_same => Rc::clone(line),
+                Some(line) if is_same => Arc::clone(line),
                 _ => {
                     let line = Line::read(screen, row, &mut self.buffer, &self.options)?;
                     shared(line, old, &lines)
@@ -105,7 +105,7 @@ impl Renderer {
         Ok(())
     }
 
-    fn write_lines(&mut self, mut shown: Vec<Rc<Line>>, wanted: &[Rc<Line>]) {
+    fn write_lines(&mut self, mut shown: Vec<Arc<Line>>, wanted: &[Arc<Line>]) {
         let (terminal, options) = (&mut self.terminal, &self.options);
         if !options.line_attributes {
             for _ in 0..scrolls::MOST {
@@ -119,7 +119,7 @@ impl Renderer {
     }
 
     /// Puts the cursor where the screen has it. One after the last column is in the last one.
-    fn write_cursor(&mut self, screen: &Screen, lines: &[Rc<Line>]) {
+    fn write_cursor(&mut self, screen: &Screen, lines: &[Arc<Line>]) {
         let (column, row) = screen.cursor_position();
         let row = row.min(lines.len() - 1);
         let column = column.min(lines[row].len() - 1);
@@ -145,9 +145,9 @@ impl Renderer {
 }
 
 /// A row, which is one of these where one is equal, so that they are compared by their place.
-fn shared(line: Line, old: &[Rc<Line>], new: &[Rc<Line>]) -> Rc<Line> {
+fn shared(line: Line, old: &[Arc<Line>], new: &[Arc<Line>]) -> Arc<Line> {
     let beside = old.get(new.len()).into_iter();
     let mut rows = beside.chain(old).chain(new);
     let equal = rows.find(|row| ***row == line);
-    equal.map_or_else(|| Rc::new(line), Rc::clone)
+    equal.map_or_else(|| Arc::new(line), Arc::clone)
 }

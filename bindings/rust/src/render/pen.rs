@@ -5,7 +5,7 @@ use crate::attributes::{Attributes, Blink, SemanticType, Underline, VerticalAlig
 use crate::color::ColorAttribute;
 use std::fmt::Write;
 use std::ops::Deref;
-use std::rc::Rc;
+use std::sync::Arc;
 
 /// The longest uri, in bytes, that terminals take.
 const LONGEST_URI: usize = 2083;
@@ -17,7 +17,7 @@ const LONGEST_ID: usize = 250;
 #[derive(Clone, PartialEq, Eq, Debug, Default)]
 pub(super) struct Pen {
     pub style: Style,
-    pub link: Option<Rc<Link>>,
+    pub link: Option<Arc<Link>>,
 }
 
 /// Attributes that the terminal knows, without a link, and a number by which they are compared.
@@ -91,7 +91,7 @@ impl Deref for Style {
 impl Pen {
     /// These attributes, as the terminal knows them. What a text is to a shell, where it is placed
     /// on its line and whether its row was wrapped are not shown.
-    pub fn new(attributes: &Attributes, link: Option<Rc<Link>>, options: &Options) -> Pen {
+    pub fn new(attributes: &Attributes, link: Option<Arc<Link>>, options: &Options) -> Pen {
         let colors = options.colors;
         let mut attributes = Attributes {
             semantic_type: SemanticType::default(),

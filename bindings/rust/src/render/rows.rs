@@ -5,7 +5,7 @@ use super::moves::by;
 use super::options::Options;
 use super::scrolls::Scroll;
 use super::terminal::Terminal;
-use std::rc::Rc;
+use std::sync::Arc;
 
 /// How many blanks at the end of a row are erased and not printed. That takes up to a byte more,
 /// but leaves the cursor where it is known to be.
@@ -15,8 +15,8 @@ const ERASED_AT_END: usize = 2;
 pub(super) fn write(
     terminal: &mut Terminal,
     options: &Options,
-    shown: &[Rc<Line>],
-    wanted: &[Rc<Line>],
+    shown: &[Arc<Line>],
+    wanted: &[Arc<Line>],
 ) {
     let rows: Vec<_> = shown
         .iter()
@@ -56,8 +56,8 @@ pub(super) fn scroll(
     terminal: &mut Terminal,
     options: &Options,
     scroll: &Scroll,
-    shown: &mut [Rc<Line>],
-    wanted: &[Rc<Line>],
+    shown: &mut [Arc<Line>],
+    wanted: &[Arc<Line>],
 ) {
     let (height, last) = (options.height, options.height - 1);
     let is_whole = scroll.up && (scroll.top, scroll.bottom) == (0, height);
@@ -87,7 +87,7 @@ pub(super) fn scroll(
 
 /// Where the rows begin that are erased at once: those at the end that are all blanks of one pen,
 /// where two at least differ. Else that is after the last row.
-fn blank_end(options: &Options, wanted: &[Rc<Line>], rows: &[Vec<bool>]) -> usize {
+fn blank_end(options: &Options, wanted: &[Arc<Line>], rows: &[Vec<bool>]) -> usize {
     let height = wanted.len();
     let Some(last) = wanted.last().filter(|_| !options.line_attributes) else {
         return height;
@@ -96,7 +96,7 @@ fn blank_end(options: &Options, wanted: &[Rc<Line>], rows: &[Vec<bool>]) -> usiz
         return height;
     }
     let pen = last.pen(0);
-    let is_blank = |line: &&Rc<Line>| line.blanks(0) == line.len() && line.pen(0) == pen;
+    let is_blank = |line: &&Arc<Line>| line.blanks(0) == line.len() && line.pen(0) == pen;
     let count = wanted.iter().rev().take_while(is_blank).count();
     let begin = height - count;
     let differing = rows[begin..].iter().filter(|row| row.contains(&true));
@@ -234,7 +234,7 @@ mod tests {
 
     fn written(shown: &[&str], wanted: &[&str]) -> String {
         let [shown, wanted] = [shown, wanted]
-            .map(|rows| -> Vec<_> { rows.iter().map(|row| Rc::new(Line::of(row))).collect() });
+            .map(|rows| -> Vec<_> { rows.iter().map(|row| Arc::new(Line::of(row))).collect() });
         let options = Options::new(wanted[0].len(), wanted.len());
         let mut terminal = Terminal::new(&options);
         terminal.set_pen(&Pen::default());

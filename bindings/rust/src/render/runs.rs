@@ -5,7 +5,7 @@ use super::options::Options;
 use super::pen::{Link, Pen};
 use crate::error::Error;
 use crate::rows::{Row, RowCell};
-use std::rc::Rc;
+use std::sync::Arc;
 
 /// The pen of cells beside one another, and which one of the row's it is, and that of its blanks,
 /// once the row has them.
@@ -25,7 +25,7 @@ impl Run {
     pub fn read(row: Row, column: usize, cell: &RowCell, options: &Options) -> Result<Run, Error> {
         let mut link = None;
         if cell.has_link() {
-            link = read_link(row, column)?.map(Rc::new);
+            link = read_link(row, column)?.map(Arc::new);
         }
         Ok(Run {
             pen: Pen::new(cell.attrs(), link, options),

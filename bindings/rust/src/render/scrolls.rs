@@ -1,7 +1,7 @@
 //! Scrolls that bring rows to where they are to be shown.
 
 use super::line::Line;
-use std::{iter, rc::Rc};
+use std::{iter, sync::Arc};
 
 /// How many scrolls are looked for at most.
 pub(super) const MOST: usize = 4;
@@ -24,7 +24,7 @@ pub(super) struct Scroll {
 
 impl Scroll {
     /// Scrolls rows.
-    pub fn apply(&self, lines: &mut [Rc<Line>]) {
+    pub fn apply(&self, lines: &mut [Arc<Line>]) {
         let lines = &mut lines[self.top..self.bottom];
         let width = lines[0].len();
         let attribute = lines[0].attribute;
@@ -35,12 +35,12 @@ impl Scroll {
             lines.rotate_right(self.count);
             0..self.count
         };
-        lines[new].fill(Rc::new(Line::blank(width, attribute)));
+        lines[new].fill(Arc::new(Line::blank(width, attribute)));
     }
 }
 
 /// Finds the scroll that saves the most, if one saves more than it takes.
-pub(super) fn find(shown: &[Rc<Line>], wanted: &[Rc<Line>]) -> Option<Scroll> {
+pub(super) fn find(shown: &[Arc<Line>], wanted: &[Arc<Line>]) -> Option<Scroll> {
     let pairs = shown.iter().zip(wanted);
     let costs: Vec<_> = pairs.map(|(shown, wanted)| cost(wanted, shown)).collect();
     if costs.iter().sum::<isize>() <= LINES {
@@ -58,7 +58,7 @@ pub(super) fn find(shown: &[Rc<Line>], wanted: &[Rc<Line>]) -> Option<Scroll> {
 }
 
 /// Whether a row that takes anything is one that is shown somewhere.
-fn are_any_moved(shown: &[Rc<Line>], wanted: &[Rc<Line>], costs: &[isize]) -> bool {
+fn are_any_moved(shown: &[Arc<Line>], wanted: &[Arc<Line>], costs: &[isize]) -> bool {
     let mut costly = wanted.iter().zip(costs).filter(|(_, cost)| **cost > 0);
     costly.any(|(line, _)| shown.contains(line))
 }
@@ -78,8 +78,8 @@ fn cost(wanted: &Line, shown: &Line) -> isize {
 
 /// The rows that are shown and those that are wanted, and what each of the wanted ones takes.
 struct Search<'a> {
-    shown: &'a [Rc<Line>],
-    wanted: &'a [Rc<Line>],
+    shown: &'a [Arc<Line>],
+    wanted: &'a [Arc<Line>],
     costs: Vec<isize>,
 }
 
@@ -184,8 +184,8 @@ fn places(count: usize, up: bool) -> (usize, usize) {
 mod tests {
     use super::*;
 
-    fn lines(letters: &str) -> Vec<Rc<Line>> {
-        let line = |letter: char| Rc::new(Line::of(&letter.to_string().repeat(9)));
+    fn lines(letters: &str) -> Vec<Arc<Line>> {
+        let line = |letter: char| Arc::new(Line::of(&letter.to_string().repeat(9)));
         letters.chars().map(line).collect()
     }
 

@@ -9,7 +9,7 @@ use super::sgr;
 use crate::change::LineAttribute;
 use std::fmt;
 use std::io::Write;
-use std::rc::Rc;
+use std::sync::Arc;
 
 /// What a terminal was last told, or nothing where that is unknown, and what it is to be told.
 pub(super) struct Terminal {
@@ -17,7 +17,7 @@ pub(super) struct Terminal {
     pub bytes: Vec<u8>,
     place: Place,
     style: Option<Style>,
-    link: Option<Option<Rc<Link>>>,
+    link: Option<Option<Arc<Link>>>,
     pub settings: Settings,
     /// Whether rows may have different widths, so that the cursor can't go along one for another.
     has_large_lines: bool,
@@ -160,7 +160,7 @@ impl Terminal {
         }
     }
 
-    fn set_link(&mut self, link: &Option<Rc<Link>>) {
+    fn set_link(&mut self, link: &Option<Arc<Link>>) {
         if self.link.as_ref() == Some(link) {
             return;
         }

@@ -1,12 +1,12 @@
 //! Changes of one attribute.
-ghost use Rattle.std.specs.Prelude.{◌≡◌, false};
+ghost use Rattle.std.specs.Prelude.{◌≡◌, IsOk, false};
 ghost use Rattle.termwiz_cell.specs.{attribute_change_value, is_link};
 
-use super::form::clone_link;
+use super::form::{clone_link, own_link};
 use super::style::{Blink, Intensity, Underline};
 use crate::color::ColorAttribute;
-use crate::hyperlink::Hyperlink;
-use std::alloc::AllocError;
+use crate::hyperlink::{Hyperlink, LinkCopies};
+use std::alloc::{AllocError, Global};
 use std::rc::Rc;
 
 /// One attribute and its new value. The other attributes are unchanged. Two changes are equal where
@@ -45,6 +45,19 @@ impl Clone for AttributeChange {
                 let copy = clone_link(value)?;
                 Ok(AttributeChange::Hyperlink(copy))
             }
+        }
+    }
+}
+
+impl AttributeChange {
+    /// Gives it a link of its own, if it sets one. It stays as it is, even after an error.
+    pub fn own_link(&mut self, alloc: Global, copies: &mut LinkCopies) -> Result<(), AllocError>
+        ensures same { attribute_change_value self.new ≡ attribute_change_value self.old }
+        ensures succeeds { is_link (attribute_change_value self.old) ≡ false → IsOk result }
+    {
+        match self {
+            AttributeChange::Hyperlink(link) => own_link(alloc, link, copies),
+            _ => Ok(()),
         }
     }
 }

@@ -12,7 +12,7 @@ use super::form::{Form, clone_link, is_default_color};
 use super::style::{Blink, Intensity, SemanticType, Underline, VerticalAlign};
 use super::style_word::StyleWord;
 use crate::color::ColorAttribute;
-use crate::hyperlink::Hyperlink;
+use crate::hyperlink::{Hyperlink, LinkCopies};
 use std::alloc::{AllocError, Global};
 use std::marker::Model;
 use std::rc::Rc;
@@ -403,6 +403,16 @@ impl CellAttributes {
             IsOk result }
     {
         self.form.set_hyperlink(alloc, value)
+    }
+
+    /// Gives them a link of their own, if they have one, which shares no memory with another. They
+    /// stay as they are, even after an error.
+    #[inline]
+    pub fn own_link(&mut self, alloc: Global, copies: &mut LinkCopies) -> Result<(), AllocError>
+        ensures same { self.new ≡ self.old }
+        ensures succeeds { self.old.hyperlink ≡ None → IsOk result }
+    {
+        self.form.own_link(alloc, copies)
     }
 
     /// A copy with the semantic type `Output`, and without underline, overline, strike through and

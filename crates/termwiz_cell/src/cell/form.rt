@@ -8,7 +8,7 @@ ghost use Rattle.termwiz_cell.specs.AttributesLayout as spec;
 use super::fallback_word::FallbackWord;
 use super::style_word::StyleWord;
 use crate::color::{ColorAttribute, PaletteIndex, is_same_color};
-use crate::hyperlink::Hyperlink;
+use crate::hyperlink::{Hyperlink, LinkCopies};
 use std::alloc::{AllocError, Global};
 use std::rc::Rc;
 
@@ -264,6 +264,26 @@ impl Form {
         Ok(())
     }
 
+    /// Gives them a link of their own, if they have one.
+    #[inline]
+    pub(super) fn own_link(
+        &mut self,
+        alloc: Global,
+        copies: &mut LinkCopies,
+    ) -> Result<(), AllocError>
+        requires { spec.IsNeeded self.old }
+        ensures fallbacks { spec.fallbacks_in self.new ≡ spec.fallbacks_in self.old }
+        ensures style { spec.style_in self.new ≡ spec.style_in self.old }
+        ensures rare { spec.rare_in self.new ≡ spec.rare_in self.old }
+        ensures needed { spec.IsNeeded self.new }
+        ensures succeeds { (spec.rare_in self.old).hyperlink ≡ None → IsOk result }
+    {
+        match self {
+            Form::Plain(..) => Ok(()),
+            Form::Boxed(full) => own_link(alloc, &mut full.hyperlink, copies),
+        }
+    }
+
     /// Whether both are the same attributes.
     #[inline]
     pub(super) fn is_same(&self, other: &Form) -> bool
@@ -354,6 +374,23 @@ pub(super) fn clone_link(link: &Option<Rc<Hyperlink>>) -> Result<Option<Rc<Hyper
             Ok(Some(copy))
         }
     }
+}
+
+/// Puts a copy in the link's place, if there is one. It stays as it is, even after an error.
+pub(super) fn own_link(
+    alloc: Global,
+    link: &mut Option<Rc<Hyperlink>>,
+    copies: &mut LinkCopies,
+) -> Result<(), AllocError>
+    ensures same { linked link.new ≡ linked link.old }
+    ensures succeeds { linked link.old ≡ None → IsOk result }
+{
+    let copy = match link {
+        None => return Ok(()),
+        Some(found) => copies.copy(alloc, &**found)?,
+    };
+    *link = Some(copy);
+    Ok(())
 }
 
 pub(super) fn is_default_color(color: ColorAttribute) -> bool

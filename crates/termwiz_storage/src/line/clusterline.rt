@@ -15,12 +15,14 @@ mod runs;
 use crate::line::cellref::CellRef;
 use crate::line::vecstorage::{hides_next, plain_byte, push_with_half, set_wrapped};
 use run_lists::{
-    AttrsIter, ShapeIter, attrs_at, cell_count, has_link, push_attrs, push_shape, wrap_last,
+    AttrsIter, ShapeIter, attrs_at, cell_count, has_link, own_links, push_attrs, push_shape,
+    wrap_last,
 };
 use runs::{AttrsRun, Shape, ShapeRun};
 use std::alloc::{AllocError, Global};
 use std::marker::Model;
 use termwiz_cell::cell::{Cell, CellAttributes};
+use termwiz_cell::hyperlink::LinkCopies;
 
 /// The cells of a line as one text, with runs of equal shapes and runs of equal attributes. Where
 /// adjacent cells have equal shapes and attributes it takes far less memory than a vector of cells.
@@ -190,6 +192,17 @@ impl ClusteredLine {
             }
         }
         None
+    }
+
+    /// Gives the cells links of their own. The list stays as it is, even after an error.
+    pub(super) fn own_links(
+        &mut self,
+        alloc: Global,
+        copies: &mut LinkCopies,
+    ) -> Result<(), AllocError>
+        ensures { self.new ≡ self.old }
+    {
+        own_links(alloc, &mut self.attrs, copies)
     }
 
     /// Whether a stored cell has a link.

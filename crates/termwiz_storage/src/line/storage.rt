@@ -17,6 +17,7 @@ use crate::line::clusterline::{ClusteredLine, is_whole};
 use crate::line::vecstorage::VecStorage;
 use std::alloc::{AllocError, Global};
 use termwiz_cell::cell::{Cell, CellAttributes};
+use termwiz_cell::hyperlink::LinkCopies;
 
 /// The stored cells of a line: a list in one of two forms. `coerce_vec` lends the cells for
 /// writing.
@@ -289,6 +290,18 @@ impl CellStorage {
         match self {
             CellStorage::V(storage) => storage.get_cell(i),
             CellStorage::Cluster(line) => line.get_cell(i),
+        }
+    }
+
+    /// Gives the cells links of their own, which share no memory with others. The list stays as it
+    /// is, even after an error.
+    pub fn own_links(&mut self, alloc: Global, copies: &mut LinkCopies) -> Result<(), AllocError>
+        ensures cells { cells_in self.new ≡ cells_in self.old }
+        ensures vector { is_vector self.new ≡ is_vector self.old }
+    {
+        match self {
+            CellStorage::V(storage) => storage.own_links(alloc, copies),
+            CellStorage::Cluster(line) => line.own_links(alloc, copies),
         }
     }
 

@@ -19,7 +19,7 @@ use crate::line::cellref::CellRef;
 pub(crate) use edits::hides_next;
 pub use edits::push_with_half;
 use lists::{
-    blank_cells, copied_cells, cut, own_nothing, pad_cells, pad_in_room, put_cells,
+    blank_cells, copied_cells, cut, own_links, own_nothing, pad_cells, pad_in_room, put_cells,
     put_letter_cells,
 };
 use std::alloc::{AllocError, Global};
@@ -27,6 +27,7 @@ use std::marker::Model;
 use std::mem;
 use std::ops::{DerefSlice, DerefSliceMut};
 use termwiz_cell::cell::{Cell, CellAttributes};
+use termwiz_cell::hyperlink::LinkCopies;
 use termwiz_text::letter_count;
 pub use walk::VecStorageIter;
 pub(crate) use walk::plain_byte;
@@ -454,6 +455,21 @@ impl VecStorage {
             cell_index: i,
             cell,
         })
+    }
+
+    /// Gives the cells links of their own. Where no cell owns memory, none is inspected. The list
+    /// stays as it is, even after an error.
+    pub(crate) fn own_links(
+        &mut self,
+        alloc: Global,
+        copies: &mut LinkCopies,
+    ) -> Result<(), AllocError>
+        ensures { self.new ≡ self.old }
+    {
+        if self.owns {
+            own_links(alloc, &mut self.cells, copies)?;
+        }
+        Ok(())
     }
 
     /// Whether a stored cell has a link.

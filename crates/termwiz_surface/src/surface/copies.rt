@@ -7,6 +7,7 @@ ghost use Rattle.termwiz_surface.specs.{screen_of};
 
 use super::{Surface, SurfaceError};
 use std::alloc::AllocError;
+use std::borrow::CowSlice;
 use termwiz_cell::cell::CellAttributes;
 use termwiz_cell::change::{Change, Position, SequenceNo};
 use termwiz_cell::emoji::Widths;
@@ -47,7 +48,7 @@ impl<W: Widths> Surface<W> {
         let (width, height) = other.dimensions();
         let printed = self.diff_region(x, y, width, height, other, 0, 0)?;
         let changes = restored(printed, (self.x, self.y), &self.pen)?;
-        self.add_changes(changes)
+        self.add_own_changes(CowSlice::Owned(changes))
     }
 
     /// Copies what the region of `width` columns and `height` rows from column `src_x` and row

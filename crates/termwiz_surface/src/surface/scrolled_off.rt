@@ -24,8 +24,19 @@ use termwiz_cell::emoji::Widths;
 use termwiz_text::{after_line_end, split_first_grapheme};
 
 impl<W: Widths> Surface<W> {
+    // Gives a row links of its own, as the last lines of a scrollback have them. The surface stays as
+    // it is, even after an error.
+    fn own_row_links(&mut self, row: usize, scrollback: &mut Scrollback) -> Result<(), AllocError>
+        requires { row < self.old.height }
+        ensures same { self.new ≡ self.old }
+        ensures lines { scrollback.new.lines ≡ scrollback.old.lines }
+        ensures spare { spare_lines scrollback.new ≡ spare_lines scrollback.old }
+    {
+        scrollback.own_links(&mut self.rows[row])
+    }
+
     // Moves a row to the end of a scrollback, and leaves a row of default blanks in its place.
-    fn take_row(&mut self, row: usize, scrollback: &mut Scrollback) -> Result<(), AllocError>
+    fn move_row(&mut self, row: usize, scrollback: &mut Scrollback) -> Result<(), AllocError>
         requires { row < self.old.height }
         ensures ok { OnOk result (let s = screen_of self.old in let k = kept_of self.old in
             Becomes self.old
@@ -50,6 +61,30 @@ impl<W: Widths> Surface<W> {
         self.numbers.mark_row(row, self.mark);
         scrollback.lines.push_back_reserved(line);
         Ok(())
+    }
+
+    // Moves a row with links of its own to the end of a scrollback, and leaves a row of default
+    // blanks in its place.
+    fn take_row(&mut self, row: usize, scrollback: &mut Scrollback) -> Result<(), AllocError>
+        requires { row < self.old.height }
+        ensures ok { OnOk result (let s = screen_of self.old in let k = kept_of self.old in
+            Becomes self.old
+            (record s { rows = slice_set s.rows row (replicate s.width blank) })
+            (record k {
+              lengths = slice_set k.lengths row s.width;
+              flags = slice_set k.flags row no_flags;
+            })
+            (λ j. j == row) self.new) }
+        ensures moves { OnOk result (ScrollsOff self.old.width
+            (row_shown (screen_of self.old) (kept_of self.old) row ∷ [])
+            scrollback.old.lines.items scrollback.new.lines.items) }
+        ensures err { OnErr result (self.new ≡ self.old) }
+        ensures kept { OnErr result (scrollback.new.lines.items ≡ scrollback.old.lines.items) }
+        ensures spare { spare_lines scrollback.new ≤ spare_lines scrollback.old }
+        ensures sound { OnOk result (IsSound (measure W.width_of self.old.widths) self.old) }
+    {
+        self.own_row_links(row, scrollback)?;
+        self.move_row(row, scrollback)
     }
 
     // Moves the first `count` rows to the end of a scrollback, and leaves rows of default blanks in

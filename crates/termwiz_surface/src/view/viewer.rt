@@ -195,24 +195,9 @@ impl<W: Widths> Viewer<W> {
         ensures preserves { Preserves (measure W.width_of) self.old.surface self.new.surface }
     {
         self.last = SEQ_ZERO;
-        self.add(changes)?;
+        self.surface.add_own_changes(changes)?;
         self.last = number;
         Ok(number)
-    }
-
-    // Applies the changes. Borrowed ones are cloned into the log, and owned ones moved.
-    fn add(&mut self, changes: CowSlice<'_, Change>) -> Result<SequenceNo, SurfaceError>
-        ensures adds { Adds (measure W.width_of self.old.surface.widths)
-            self.old.surface (stream_of changes.entry)
-            (next_number self.old.surface.log - 1 + length (stream_of changes.entry))
-            result self.new.surface }
-        ensures last { self.new.last ≡ self.old.last }
-        ensures preserves { Preserves (measure W.width_of) self.old.surface self.new.surface }
-    {
-        match changes {
-            CowSlice::Borrowed(lent) => self.surface.add_lent_changes(lent),
-            CowSlice::Owned(list) => self.surface.add_changes(list),
-        }
     }
 
     /// Forgets the number, so that the next answer is a repaint.
@@ -277,7 +262,7 @@ impl<W: Widths> Viewer<W> {
     {
         let number = answer.number();
         self.last = SEQ_ZERO;
-        if self.add(answer.into_stream()).is_err() {
+        if self.surface.add_own_changes(answer.into_stream()).is_err() {
             return Err(AllocError);
         }
         self.last = number;

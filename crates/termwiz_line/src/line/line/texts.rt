@@ -15,6 +15,7 @@ use std::ops::Range;
 use termwiz_cell::cell::{Cell, CellAttributes};
 use termwiz_cell::change::{SEQ_ZERO, SequenceNo};
 use termwiz_cell::emoji::{UnicodeVersion, Widths};
+use termwiz_cell::hyperlink::LinkCopies;
 use termwiz_storage::line::cellref::{CellRef, VisibleCellIter};
 use termwiz_storage::line::vecstorage::push_with_half;
 use termwiz_text::Graphemes;
@@ -153,6 +154,14 @@ impl Line {
         ensures of_cell { IfSome result IsOfCell }
     {
         self.storage.get_cell(cell_index)
+    }
+
+    /// Gives the cells links of their own, which share no memory with others. The line stays as it
+    /// is, even after an error.
+    pub fn own_links(&mut self, copies: &mut LinkCopies) -> Result<(), AllocError>
+        ensures { self.new ≡ self.old }
+    {
+        self.storage.own_links(self.alloc, copies)
     }
 
     /// Whether a stored cell has a link.

@@ -6,10 +6,11 @@ ghost use Rattle.termwiz_storage.specs.{option_copied, replicate, shape_in, shap
 
 use crate::line::clusterline::runs::{AttrsRun, Shape, ShapeRun};
 use crate::line::vecstorage::set_wrapped;
-use std::alloc::AllocError;
+use std::alloc::{AllocError, Global};
 use std::marker::Model;
 use std::slice;
 use termwiz_cell::cell::CellAttributes;
+use termwiz_cell::hyperlink::LinkCopies;
 
 impl Clone for AttrsRun {
     ghost use Rattle.termwiz_storage.specs.CellRuns.{same_run};
@@ -199,6 +200,20 @@ pub(super) fn attrs_at(runs: &[AttrsRun], i: usize) -> Option<&CellAttributes>
         left -= cells;
     }
     None
+}
+
+/// Gives the runs links of their own. Each stays as it is, even after an error.
+pub(super) fn own_links(
+    alloc: Global,
+    runs: &mut [AttrsRun],
+    copies: &mut LinkCopies,
+) -> Result<(), AllocError>
+    ensures { attrs_of runs.new ≡ attrs_of runs.old }
+{
+    for run in runs.iter_mut() {
+        run.attrs.own_link(alloc, copies)?;
+    }
+    Ok(())
 }
 
 /// Whether a cell has a link.

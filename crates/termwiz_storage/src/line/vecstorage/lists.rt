@@ -8,6 +8,7 @@ ghost use Rattle.termwiz_storage.specs.{put_run, replicate, take, true};
 use std::alloc::{AllocError, Global};
 use std::mem;
 use termwiz_cell::cell::{Cell, CellAttributes};
+use termwiz_cell::hyperlink::LinkCopies;
 use termwiz_text::{letter_at, letter_count};
 
 // Pads with default blanks. It is kept out of line, so that the path of a list that is long enough
@@ -64,6 +65,20 @@ pub(super) fn own_nothing(cells: &[Cell]) -> bool
     ensures { IsTrue result ↔ OwnNothing cells.now }
 {
     cells.iter().all(|cell| !cell.owns_memory())
+}
+
+// Gives the cells links of their own. Each stays as it is, even after an error.
+pub(super) fn own_links(
+    alloc: Global,
+    cells: &mut [Cell],
+    copies: &mut LinkCopies,
+) -> Result<(), AllocError>
+    ensures { cells.new ≡ cells.old }
+{
+    for cell in cells.iter_mut() {
+        cell.attrs_mut().own_link(alloc, copies)?;
+    }
+    Ok(())
 }
 
 // Copies of cells, with room for `room` cells. Those that own no memory are copied without a call.

@@ -13,7 +13,7 @@ use Rattle.termwiz_surface.specs.ScrolledOff.{ScrollsOff, ShownRow, line_shown, 
 use Rattle.termwiz_surface.specs.Surface.{SurfaceValue, IsSound, kept_of, screen_of}
 use Rattle.termwiz_surface.proofs.RowNumbers.{marks-one, set-outside}
 use Rattle.termwiz_surface.proofs.ScrolledOff.{IsSound-taken, lengths-set, rows-set, shown-read}
-use Rattle.termwiz_surface.proofs.surface.Surface.take_row.Goals as goal
+use Rattle.termwiz_surface.proofs.surface.Surface.move_row.Goals as goal
 
 pub invariant_of-self : goal.invariant_of-self
 invariant_of-self g c =

@@ -10,27 +10,18 @@
 //!     player play        plays standard input alone
 //!     player compressed  plays it with each line compressed after each call on it
 //!
-//! Where memory is refused to a line, it is played once more: see `play`.
+//! Where memory is refused to a line, it is played once more: see `playing::play`.
 #![tactic(auto)]
 
-mod attributes;
-mod cells;
-mod error;
-mod escapes;
-mod lines;
-mod pens;
-mod play;
-mod recorded;
 mod scripts;
 mod stages;
 mod streams;
 mod surfaces;
-mod turn;
-mod words;
 
-use error::PlayError;
-use play::play_input;
-use recorded::play_recorded;
+use playing::error::PlayError;
+use playing::play::play_input;
+use playing::recorded::play_recorded;
+use playing::{cells, lines};
 use stages::Stages;
 use std::env;
 

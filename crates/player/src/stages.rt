@@ -1,8 +1,9 @@
 //! The stages, of which one is set at a time.
-use crate::error::PlayError;
-use crate::play::Play;
-use crate::turn::Turn;
-use crate::{cells, lines, scripts, streams, surfaces};
+use crate::{scripts, streams, surfaces};
+use playing::error::PlayError;
+use playing::play::Play;
+use playing::turn::Turn;
+use playing::{cells, lines};
 use std::alloc::Global;
 
 #[derive(Drop)]

@@ -3,7 +3,6 @@
 //!
 //! `cases/LANGUAGE.md` lists the lines of a transcript and their answers.
 pub mod answers;
-pub mod changes;
 mod lists;
 pub mod measure;
 mod refusals;

@@ -1,5 +1,5 @@
 //! How sessions end whose memory is refused, or whose output can't be flushed.
-use crate::turn::Turn;
+use playing::turn::Turn;
 use sessions::ending::SessionError;
 use sessions::view::{USAGE, view_session};
 use std::io::{self, ErrorKind, Write};

@@ -1,8 +1,8 @@
 //! What the lines of the cases do, and their answers.
-use crate::error::PlayError;
-use crate::play::Play;
 use crate::scripts::endings::push_ending;
-use crate::turn::Turn;
+use playing::error::PlayError;
+use playing::play::Play;
+use playing::turn::Turn;
 use sessions::printed::PrintedMany;
 use sessions::view::script::{Events, read};
 use std::alloc::Global;

@@ -1,7 +1,7 @@
 //! Values as bytes, and what becomes of damaged bytes.
-use crate::error::PlayError;
 use crate::streams::followed::Followed;
-use crate::turn::Turn;
+use playing::error::PlayError;
+use playing::turn::Turn;
 use termwiz_cell::emoji::{OneColumn, UnicodeWidths, Widths};
 use termwiz_wire::{
     Limits, WireError, decode_answer, decode_ask, decode_change, decode_head, encode_answer,
@@ -22,83 +22,81 @@ pub enum Kind {
 // The bytes of a value that is encoded again, and how many bytes it was decoded from.
 type Again = Result<(Vec<u8>, usize), WireError>;
 
-impl Turn<'_> {
-    /// Decodes the value that bytes begin with, and encodes it again. Returns whether its encoding
-    /// is what it was decoded from, or the place of its fault is among the bytes. With `shows` it
-    /// answers which value or fault it is.
-    pub fn decode(&mut self, kind: Kind, bytes: &[u8], shows: bool) -> bool {
-        let again = match kind {
-            Kind::Change => self.change_again(&UnicodeWidths, bytes, shows),
-            Kind::Narrow => self.change_again(&OneColumn, bytes, shows),
-            Kind::Answer => self.answer_again(bytes, shows),
-            Kind::Ask => self.ask_again(bytes, shows),
-            // Of a head nothing is encoded.
-            Kind::Head => match decode_head(Limits::default(), bytes) {
-                Ok(head) => {
-                    writeln!(self, "{head:?}");
-                    Ok((Vec::new(self.alloc), 0))
-                }
-                Err(fault) => Err(WireError::Fault(fault)),
-            },
-        };
-        match again {
-            Ok((again, taken)) => again.len() == taken && bytes.starts_with(again.as_slice()),
-            Err(WireError::Memory) => {
-                self.fail(PlayError::Memory);
-                false
+/// Decodes the value that bytes begin with, and encodes it again. Returns whether its encoding is
+/// what it was decoded from, or the place of its fault is among the bytes. With `shows` it answers
+/// which value or fault it is.
+pub fn decode(turn: &mut Turn<'_>, kind: Kind, bytes: &[u8], shows: bool) -> bool {
+    let again = match kind {
+        Kind::Change => change_again(turn, &UnicodeWidths, bytes, shows),
+        Kind::Narrow => change_again(turn, &OneColumn, bytes, shows),
+        Kind::Answer => answer_again(turn, bytes, shows),
+        Kind::Ask => ask_again(turn, bytes, shows),
+        // Of a head nothing is encoded.
+        Kind::Head => match decode_head(Limits::default(), bytes) {
+            Ok(head) => {
+                writeln!(turn, "{head:?}");
+                Ok((Vec::new(turn.alloc), 0))
             }
-            Err(WireError::Fault(fault)) => {
-                if shows {
-                    writeln!(self, "{fault}");
-                }
-                fault.at <= bytes.len()
+            Err(fault) => Err(WireError::Fault(fault)),
+        },
+    };
+    match again {
+        Ok((again, taken)) => again.len() == taken && bytes.starts_with(again.as_slice()),
+        Err(WireError::Memory) => {
+            turn.fail(PlayError::Memory);
+            false
+        }
+        Err(WireError::Fault(fault)) => {
+            if shows {
+                writeln!(turn, "{fault}");
             }
+            fault.at <= bytes.len()
         }
     }
+}
 
-    fn change_again<W: Widths>(&mut self, widths: &W, bytes: &[u8], shows: bool) -> Again {
-        match decode_change(self.alloc, widths, bytes) {
-            Ok((change, taken)) => {
-                if shows {
-                    writeln!(self, "{change:?}");
-                }
-                let mut again = Vec::new(self.alloc);
-                let encoded = encode_change(&mut again, widths, &change);
-                self.note(encoded);
-                Ok((again, taken))
+fn change_again<W: Widths>(turn: &mut Turn<'_>, widths: &W, bytes: &[u8], shows: bool) -> Again {
+    match decode_change(turn.alloc, widths, bytes) {
+        Ok((change, taken)) => {
+            if shows {
+                writeln!(turn, "{change:?}");
             }
-            Err(error) => Err(error),
+            let mut again = Vec::new(turn.alloc);
+            let encoded = encode_change(&mut again, widths, &change);
+            turn.note(encoded);
+            Ok((again, taken))
         }
+        Err(error) => Err(error),
     }
+}
 
-    fn answer_again(&mut self, bytes: &[u8], shows: bool) -> Again {
-        match decode_answer(self.alloc, &UnicodeWidths, Limits::default(), bytes) {
-            Ok((sent, taken)) => {
-                if shows {
-                    writeln!(self, "{sent:?}");
-                }
-                let mut again = Vec::new(self.alloc);
-                let encoded = encode_answer(&mut again, &UnicodeWidths, sent.source, &sent.answer);
-                self.note(encoded);
-                Ok((again, taken))
+fn answer_again(turn: &mut Turn<'_>, bytes: &[u8], shows: bool) -> Again {
+    match decode_answer(turn.alloc, &UnicodeWidths, Limits::default(), bytes) {
+        Ok((sent, taken)) => {
+            if shows {
+                writeln!(turn, "{sent:?}");
             }
-            Err(error) => Err(error),
+            let mut again = Vec::new(turn.alloc);
+            let encoded = encode_answer(&mut again, &UnicodeWidths, sent.source, &sent.answer);
+            turn.note(encoded);
+            Ok((again, taken))
         }
+        Err(error) => Err(error),
     }
+}
 
-    fn ask_again(&mut self, bytes: &[u8], shows: bool) -> Again {
-        match decode_ask(bytes) {
-            Ok((ask, taken)) => {
-                if shows {
-                    writeln!(self, "{ask:?}");
-                }
-                let mut again = Vec::new(self.alloc);
-                let encoded = encode_ask(&mut again, ask);
-                self.note(encoded);
-                Ok((again, taken))
+fn ask_again(turn: &mut Turn<'_>, bytes: &[u8], shows: bool) -> Again {
+    match decode_ask(bytes) {
+        Ok((ask, taken)) => {
+            if shows {
+                writeln!(turn, "{ask:?}");
             }
-            Err(error) => Err(error),
+            let mut again = Vec::new(turn.alloc);
+            let encoded = encode_ask(&mut again, ask);
+            turn.note(encoded);
+            Ok((again, taken))
         }
+        Err(error) => Err(error),
     }
 }
 
@@ -140,7 +138,7 @@ impl Trial {
     fn meet(&mut self, turn: &mut Turn<'_>, bytes: &[u8]) {
         let is_met = match self {
             Trial::Fed(followed) => followed.meets(turn, bytes),
-            Trial::Decoded(kind) => turn.decode(*kind, bytes, false),
+            Trial::Decoded(kind) => decode(turn, *kind, bytes, false),
         };
         if !is_met {
             turn.fail(PlayError::Differs);

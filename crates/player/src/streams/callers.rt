@@ -1,8 +1,8 @@
 //! Callers of crates/uses: each makes the surfaces and viewers that it is about. Where a call
 //! requires what another one ensures, its result is matched here, and not passed to the turn.
-use crate::error::PlayError;
-use crate::streams::given::Shown;
-use crate::turn::Turn;
+use crate::streams::given::{Shown, changes_of, note_change, paint, painted, push_rows, size_of};
+use playing::error::PlayError;
+use playing::turn::Turn;
 use termwiz_cell::change::{Change, ChangeSequence};
 use termwiz_cell::emoji::UnicodeWidths;
 use termwiz_share::{ClientError, Source};
@@ -49,7 +49,7 @@ fn painted_call(turn: &mut Turn<'_>, name: &str, size: &str) -> Option<()> {
         "copies" | "patch" | "widget" => turn.word(),
         _ => turn.rest(),
     };
-    let mut surface = turn.painted(size, name == "remote", before)?;
+    let mut surface = painted(turn, size, name == "remote", before)?;
     match name {
         "mirror" => mirrored(turn, &surface),
         "follower" => followed(turn, &mut surface),
@@ -64,10 +64,10 @@ fn painted_call(turn: &mut Turn<'_>, name: &str, size: &str) -> Option<()> {
 
 // The rows and the cursor where an ellipsis has two columns.
 fn ellipses(turn: &mut Turn<'_>, size: &str) -> Option<()> {
-    let (width, height) = turn.size_of(size);
+    let (width, height) = size_of(turn, size);
     let words = turn.rest();
     let mut surface = turn.kept(surface_with_wide_ellipses(turn.alloc, width, height))?;
-    turn.paint(&mut surface, words);
+    paint(turn, &mut surface, words);
     let shown = turn.kept(surface.screen_chars_to_string())?;
     let (x, y) = surface.cursor_position();
     write!(turn, "{shown:?}, cursor {x} {y}");
@@ -79,7 +79,7 @@ fn frames(turn: &mut Turn<'_>, surface: &mut Shown) -> Option<()> {
     let words = turn.rest();
     let mut frame = turn.kept(surface.full_screen())?;
     let first = turn.kept(take_frame(surface, &mut frame)).unwrap_or(false);
-    turn.paint(surface, words);
+    paint(turn, surface, words);
     let changed = turn.kept(take_frame(surface, &mut frame)).unwrap_or(false);
     let again = turn.kept(take_frame(surface, &mut frame)).unwrap_or(false);
     write!(turn, "the last one again: {first}, {changed}, {again}");
@@ -92,7 +92,7 @@ fn mirrored(turn: &mut Turn<'_>, surface: &Shown) -> Option<()> {
         return turn.refused();
     };
     let before = turn.kept(show_the_same(mirror.shown(), surface)) == Some(true);
-    turn.note_change(mirror.catch_up(surface));
+    note_change(turn, mirror.catch_up(surface));
     let after = turn.kept(show_the_same(mirror.shown(), surface)) == Some(true);
     write!(turn, "shows the same: {before}, then {after}");
     Some(())
@@ -101,24 +101,24 @@ fn mirrored(turn: &mut Turn<'_>, surface: &Shown) -> Option<()> {
 // What a follower shows after two changes, and how many changes it was given of the second one.
 fn followed(turn: &mut Turn<'_>, surface: &mut Shown) -> Option<()> {
     let words = turn.rest();
-    let mut changes = turn.changes_of(words);
+    let mut changes = changes_of(turn, words);
     let second = turn.found(changes.pop())?;
     let first = turn.found(changes.pop())?;
     let Ok(mut follower) = Follower::new(turn.alloc, surface, surface.widths()) else {
         return turn.refused();
     };
-    turn.note_change(make_and_show(surface, &mut follower, first));
+    note_change(turn, make_and_show(surface, &mut follower, first));
     let before = follower.shown().current_seqno();
-    turn.note_change(make_and_show(surface, &mut follower, second));
+    note_change(turn, make_and_show(surface, &mut follower, second));
     let given = follower.shown().current_seqno().wrapping_sub(before);
-    turn.push_rows(follower.shown());
+    push_rows(turn, follower.shown());
     writeln!(turn, "changes of the second: {given}");
     Some(())
 }
 
 // Where a prompt leaves the cursor, and how many rows lie between its first row and its last.
 fn prompt(turn: &mut Turn<'_>, size: &str) -> Option<()> {
-    let (width, height) = turn.size_of(size);
+    let (width, height) = size_of(turn, size);
     let (line, hint) = (turn.word(), turn.word());
     let line = turn.unescaped(line, ' ');
     let hint = turn.unescaped(hint, ' ');
@@ -182,16 +182,17 @@ fn viewed(turn: &mut Turn<'_>, name: &str, surface: &mut Shown) -> Option<()> {
         "widget" => {
             let (size, change) = (turn.word(), turn.word());
             let (x, y) = turn.pair();
-            let widget = turn.painted(size, false, change)?;
-            turn.note_change(show_widget(surface, &widget, x, y, &mut viewer));
+            let widget = painted(turn, size, false, change)?;
+            note_change(turn, show_widget(surface, &widget, x, y, &mut viewer));
         }
         "remote" if surface.is_full() => {
             let heading = turn.word();
-            turn.note_change(show_heading(turn.alloc, surface, heading, &mut viewer));
+            let shown = show_heading(turn.alloc, surface, heading, &mut viewer);
+            note_change(turn, shown);
         }
-        _ => turn.note_change(refresh(surface, &mut viewer)),
+        _ => note_change(turn, refresh(surface, &mut viewer)),
     }
-    turn.push_rows(viewer.surface());
+    push_rows(turn, viewer.surface());
     if name == "refresh" {
         let (has, has_first) = (surface.has_changes(viewer.last()), surface.has_changes(0));
         writeln!(turn, "has changes: {has}, from the first on: {has_first}");
@@ -216,10 +217,10 @@ fn all_refreshed(turn: &mut Turn<'_>, surface: &mut Shown) -> Option<()> {
     let Ok(mut viewers) = vec![in turn.alloc; one, other] else {
         return turn.refused();
     };
-    turn.note_change(refresh_all(surface, viewers.as_mut_slice()));
+    note_change(turn, refresh_all(surface, viewers.as_mut_slice()));
     for viewer in &viewers {
         writeln!(turn, "number {}", viewer.last());
-        turn.push_rows(viewer.surface());
+        push_rows(turn, viewer.surface());
     }
     Some(())
 }
@@ -227,7 +228,7 @@ fn all_refreshed(turn: &mut Turn<'_>, surface: &mut Shown) -> Option<()> {
 // What a far viewer shows by way of a near one, which reconnected, or what a viewer of a full
 // surface shows that did.
 fn reconnected(turn: &mut Turn<'_>, size: &str, is_full: bool) -> Option<()> {
-    let (width, height) = turn.size_of(size);
+    let (width, height) = size_of(turn, size);
     if is_full {
         let Ok(surface) = Surface::new_full(turn.alloc, width, height, UnicodeWidths) else {
             return turn.refused();
@@ -235,8 +236,8 @@ fn reconnected(turn: &mut Turn<'_>, size: &str, is_full: bool) -> Option<()> {
         let Ok(mut viewer) = join(turn.alloc, &surface) else {
             return turn.refused();
         };
-        turn.note_change(reconnect_fully(&surface, &mut viewer));
-        turn.push_rows(viewer.surface());
+        note_change(turn, reconnect_fully(&surface, &mut viewer));
+        push_rows(turn, viewer.surface());
         return Some(());
     }
     let Ok(surface) = Surface::new(turn.alloc, width, height, UnicodeWidths) else {
@@ -245,25 +246,25 @@ fn reconnected(turn: &mut Turn<'_>, size: &str, is_full: bool) -> Option<()> {
     let Ok(mut viewer) = join(turn.alloc, &surface) else {
         return turn.refused();
     };
-    turn.note_change(reconnect(&surface, &mut viewer));
+    note_change(turn, reconnect(&surface, &mut viewer));
     let Ok(mut far) = Viewer::new(turn.alloc, viewer.surface()) else {
         return turn.refused();
     };
-    turn.note_change(relay(&surface, &mut viewer, &mut far));
-    turn.note_change(relay_twice(&surface, &mut viewer, &mut far));
-    turn.push_rows(far.surface());
+    note_change(turn, relay(&surface, &mut viewer, &mut far));
+    note_change(turn, relay_twice(&surface, &mut viewer, &mut far));
+    push_rows(turn, far.surface());
     Some(())
 }
 
 // Whether copies of a surface's rows are its rows after some changes.
 fn copies(turn: &mut Turn<'_>, surface: &mut Shown) -> Option<()> {
     let words = turn.rest();
-    let changes = turn.changes_of(words);
+    let changes = changes_of(turn, words);
     let Ok(mut copies) = copy_rows(turn.alloc, surface) else {
         return turn.refused();
     };
-    turn.note_change(show(surface, changes, copies.as_mut_slice()));
-    turn.push_rows(surface);
+    note_change(turn, show(surface, changes, copies.as_mut_slice()));
+    push_rows(turn, surface);
     for (row, copy) in copies.iter().enumerate() {
         if let Some(line) = turn.found(surface.screen_line(row)) {
             writeln!(turn, "row {row} is copied: {}", copy.has_same_cells(line));
@@ -276,7 +277,7 @@ fn copies(turn: &mut Turn<'_>, surface: &mut Shown) -> Option<()> {
 // which other changes make.
 fn patched(turn: &mut Turn<'_>, size: &str, surface: &mut Shown) -> Option<()> {
     let words = turn.rest();
-    let target = turn.painted(size, false, words)?;
+    let target = painted(turn, size, false, words)?;
     let (width, height) = surface.dimensions();
     let (other_width, other_height) = target.dimensions();
     if width != other_width || height != other_height {
@@ -286,8 +287,8 @@ fn patched(turn: &mut Turn<'_>, size: &str, surface: &mut Shown) -> Option<()> {
     let patch = turn.kept(patch_to(surface, &target))?;
     let is_damage = is_sent(damage.as_slice(), patch.as_slice());
     let is_none = is_sent(damage.as_slice(), &[]);
-    turn.note_change(apply_patch(surface, patch));
-    turn.push_rows(surface);
+    note_change(turn, apply_patch(surface, patch));
+    push_rows(turn, surface);
     write!(turn, "damage {damage:?}, ");
     writeln!(turn, "which is the patch: {is_damage}, and none: {is_none}");
     Some(())
@@ -295,25 +296,25 @@ fn patched(turn: &mut Turn<'_>, size: &str, surface: &mut Shown) -> Option<()> {
 
 // What three clients show of a screen once changes are shared with them.
 fn shared(turn: &mut Turn<'_>, size: &str) -> Option<()> {
-    let size = turn.size_of(size);
+    let size = size_of(turn, size);
     let words = turn.rest();
-    let changes = turn.changes_of(words);
+    let changes = changes_of(turn, words);
     let mut room = turn.kept(Room::new(turn.alloc, 7, size, UnicodeWidths))?;
     let shared = room.share(changes);
     writeln!(turn, "{shared:?}");
     for client in [room.first(), room.second(), room.third()] {
         writeln!(turn, "number {}", client.number());
-        turn.push_rows(client.surface());
+        push_rows(turn, client.surface());
     }
     Some(())
 }
 
 // What a client shows of two sources, by a stream that is cut after a number of bytes.
 fn both(turn: &mut Turn<'_>, size: &str) -> Option<()> {
-    let (width, height) = turn.size_of(size);
+    let (width, height) = size_of(turn, size);
     let cut = turn.number();
     let words = turn.rest();
-    let changes = turn.changes_of(words);
+    let changes = changes_of(turn, words);
     let change = turn.kept(Change::text_from(turn.alloc, "first"))?;
     let Ok(mut first) = Source::new(turn.alloc, 1, width, height, UnicodeWidths) else {
         return turn.refused();
@@ -321,9 +322,9 @@ fn both(turn: &mut Turn<'_>, size: &str) -> Option<()> {
     let Ok(mut second) = Source::new(turn.alloc, 2, width, height, UnicodeWidths) else {
         return turn.refused();
     };
-    turn.note_change(second.add_changes(changes));
+    note_change(turn, second.add_changes(changes));
     match show_both(turn.alloc, &mut first, &mut second, change, cut) {
-        Ok(client) => turn.push_rows(client.surface()),
+        Ok(client) => push_rows(turn, client.surface()),
         Err(ShareError::Unserved(ClientError::Memory)) => turn.fail(PlayError::Memory),
         Err(ShareError::Refused(SurfaceError::Memory)) => turn.fail(PlayError::Memory),
         Err(_) => turn.fail(PlayError::Bad),

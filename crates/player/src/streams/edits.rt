@@ -1,7 +1,7 @@
 //! Callers of crates/uses that change a surface of the table.
-use crate::error::PlayError;
-use crate::streams::given::Shown;
-use crate::turn::Turn;
+use crate::streams::given::{Shown, changes_of, note_change, push_rows};
+use playing::error::PlayError;
+use playing::turn::Turn;
 use termwiz_cell::emoji::UnicodeWidths;
 use termwiz_surface::{Line, Scrollback};
 use uses::last_row::{clear_last_row, draw_status};
@@ -19,18 +19,18 @@ pub fn edit(turn: &mut Turn<'_>, surface: &mut Shown) {
             let (ground, style, text) = (turn.color(), turn.word(), turn.word());
             let style = turn.pen_of(style, ',');
             if !turn.has_failed() {
-                turn.note_change(draw_status(turn.alloc, surface, ground, style, text));
+                note_change(turn, draw_status(turn.alloc, surface, ground, style, text));
             }
         }
         "clear-last" => {
             let ground = turn.color();
-            turn.note_change(clear_last_row(turn.alloc, surface, ground));
+            note_change(turn, clear_last_row(turn.alloc, surface, ground));
         }
         "one-by-one" => {
             let words = turn.rest();
-            let changes = turn.changes_of(words);
+            let changes = changes_of(turn, words);
             if !turn.has_failed() {
-                turn.note_change(make_one_by_one(surface, changes));
+                note_change(turn, make_one_by_one(surface, changes));
             }
         }
         "quiet" => quiet(turn, surface),
@@ -42,7 +42,7 @@ pub fn edit(turn: &mut Turn<'_>, surface: &mut Shown) {
         "kept" => keep(turn, surface),
         _ => turn.fail(PlayError::Bad),
     }
-    turn.push_rows(surface);
+    push_rows(turn, surface);
 }
 
 // What a program wrote is printed with its title, the first row is drawn in the last one too, and
@@ -56,10 +56,11 @@ fn quiet(turn: &mut Turn<'_>, surface: &mut Shown) {
     if turn.has_failed() {
         return;
     }
-    turn.note_change(show_output(surface, output.as_str(), title.as_str()));
-    turn.note_change(repeat_columns(surface, 0, width, 0, height.saturating_sub(1)));
+    note_change(turn, show_output(surface, output.as_str(), title.as_str()));
+    let repeated = repeat_columns(surface, 0, width, 0, height.saturating_sub(1));
+    note_change(turn, repeated);
     if let Some(settings) = settings {
-        turn.note_change(restore_settings(surface, settings));
+        note_change(turn, restore_settings(surface, settings));
     }
 }
 
@@ -71,29 +72,28 @@ fn keep(turn: &mut Turn<'_>, surface: &mut Shown) {
     let limit = turn.number();
     let mut scrollback = Scrollback::new(turn.alloc);
     if !turn.has_failed() {
-        turn.note_change(print_and_keep(surface, output.as_str(), &mut scrollback));
+        let printed = print_and_keep(surface, output.as_str(), &mut scrollback);
+        note_change(turn, printed);
     }
     keep_newest(&mut scrollback, limit);
     for line in &scrollback.lines {
-        turn.push_stored(line);
+        push_stored(turn, line);
     }
 }
 
-impl Turn<'_> {
-    // Answers a kept line, whether it is equal to itself once it is stored, and whether its copy is
-    // a text.
-    fn push_stored(&mut self, line: &Line) {
-        let Some(mut stored) = self.kept(line.clone()) else {
-            return;
-        };
-        self.note(store(&mut stored));
-        let is_same = stored == *line;
-        if let Some(copy) = self.kept(stored_copy(line)) {
-            let is_text = copy.stored_cells().is_none();
-            if let Some(text) = self.kept(shaped_text(self.alloc, &copy, &UnicodeWidths)) {
-                write!(self, "kept {text:?}, as it was: {is_same}, ");
-                writeln!(self, "a text: {is_text}");
-            }
+// Answers a kept line, whether it is equal to itself once it is stored, and whether its copy is a
+// text.
+fn push_stored(turn: &mut Turn<'_>, line: &Line) {
+    let Some(mut stored) = turn.kept(line.clone()) else {
+        return;
+    };
+    turn.note(store(&mut stored));
+    let is_same = stored == *line;
+    if let Some(copy) = turn.kept(stored_copy(line)) {
+        let is_text = copy.stored_cells().is_none();
+        if let Some(text) = turn.kept(shaped_text(turn.alloc, &copy, &UnicodeWidths)) {
+            write!(turn, "kept {text:?}, as it was: {is_same}, ");
+            writeln!(turn, "a text: {is_text}");
         }
     }
 }

@@ -1,6 +1,7 @@
 //! Damaged bytes that a client is fed.
-use crate::error::PlayError;
-use crate::turn::Turn;
+use crate::streams::given::decoded;
+use playing::error::PlayError;
+use playing::turn::Turn;
 use termwiz_cell::emoji::UnicodeWidths;
 use termwiz_share::{Client, ClientError, Source};
 use termwiz_surface::FullScreen;
@@ -29,8 +30,8 @@ impl Followed {
     pub fn new(turn: &mut Turn<'_>, repaint: Vec<u8>, delta: &[u8]) -> Option<Followed> {
         let (widths, limits) = (UnicodeWidths, Limits::default());
         let client = turn.kept(Client::new(turn.alloc, widths, limits))?;
-        let decoded = decode_answer(turn.alloc, &widths, limits, repaint.as_slice());
-        let first = turn.decoded(decoded)?;
+        let first = decode_answer(turn.alloc, &widths, limits, repaint.as_slice());
+        let first = decoded(turn, first)?;
         let ask = Ask {
             source: first.source,
             number: first.answer.number(),
@@ -42,9 +43,9 @@ impl Followed {
         let (width, height) = first.answer.size();
         let source = Source::new(turn.alloc, ask.source, width, height, widths);
         let mut source = turn.kept(source)?;
-        let before = turn.shown_after(&mut source, first.answer);
-        let more = turn.decoded(decode_answer(turn.alloc, &widths, limits, delta))?;
-        let after = turn.shown_after(&mut source, more.answer);
+        let before = shown_after(turn, &mut source, first.answer);
+        let more = decoded(turn, decode_answer(turn.alloc, &widths, limits, delta))?;
+        let after = shown_after(turn, &mut source, more.answer);
         let mut response = Vec::new(turn.alloc);
         turn.note(source.respond(ask, &mut response));
         if response.as_slice() != delta {
@@ -93,17 +94,15 @@ impl Followed {
     }
 }
 
-impl Turn<'_> {
-    // What a source shows once it made the changes of an answer, which it has to make.
-    fn shown_after(
-        &mut self,
-        source: &mut Source<UnicodeWidths>,
-        answer: Answer<'_>,
-    ) -> Option<FullScreen> {
-        let changes = self.kept(answer.into_changes(self.alloc))?;
-        if source.add_changes(changes).is_err() {
-            self.fail(PlayError::Differs);
-        }
-        self.kept(source.surface().full_screen())
+// What a source shows once it made the changes of an answer, which it has to make.
+fn shown_after(
+    turn: &mut Turn<'_>,
+    source: &mut Source<UnicodeWidths>,
+    answer: Answer<'_>,
+) -> Option<FullScreen> {
+    let changes = turn.kept(answer.into_changes(turn.alloc))?;
+    if source.add_changes(changes).is_err() {
+        turn.fail(PlayError::Differs);
     }
+    turn.kept(source.surface().full_screen())
 }

@@ -1,8 +1,8 @@
 //! A surface, and a viewer that accepts its answers.
-use crate::error::PlayError;
 use crate::streams::edits::edit;
-use crate::streams::given::Shown;
-use crate::turn::Turn;
+use crate::streams::given::{Shown, paint, painted, push_screen, sent};
+use playing::error::PlayError;
+use playing::turn::Turn;
 use termwiz_cell::emoji::UnicodeWidths;
 use termwiz_surface::view::{AcceptError, Viewer};
 
@@ -17,7 +17,7 @@ impl Scene {
     /// A blank surface of the size that the next word writes, or a full one, and its viewer.
     pub fn new(turn: &mut Turn<'_>, is_full: bool) -> Option<Scene> {
         let size = turn.word();
-        let surface = turn.painted(size, is_full, "")?;
+        let surface = painted(turn, size, is_full, "")?;
         let viewer = turn.kept(Viewer::new(turn.alloc, &surface))?;
         Some(Scene { surface, viewer })
     }
@@ -27,11 +27,11 @@ impl Scene {
     /// viewer's number.
     pub fn play(&mut self, turn: &mut Turn<'_>, what: &str) {
         match what {
-            "shown" => turn.push_screen(&self.surface),
+            "shown" => push_screen(turn, &self.surface),
             "put" => {
                 let words = turn.rest();
                 if let Some(mut changed) = turn.kept(self.surface.clone()) {
-                    turn.paint(&mut changed, words);
+                    paint(turn, &mut changed, words);
                     if !turn.has_failed() {
                         self.surface = changed;
                     }
@@ -58,7 +58,7 @@ impl Scene {
         };
         let number = answer.number();
         let accepted = if is_sent {
-            let Some(decoded) = turn.sent(&UnicodeWidths, &answer) else {
+            let Some(decoded) = sent(turn, &UnicodeWidths, &answer) else {
                 return;
             };
             self.viewer.accept(&decoded)

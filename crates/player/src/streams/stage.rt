@@ -1,14 +1,15 @@
 //! Lines of bytes, and of surfaces, sources and clients, and their answers.
-use crate::error::PlayError;
-use crate::play::Play;
-use crate::streams::bytes::{Kind, Trial};
+use crate::streams::bytes::{Kind, Trial, decode};
 use crate::streams::callers::called;
 use crate::streams::carried::carried;
 use crate::streams::followed::Followed;
+use crate::streams::given::{changes_of, note_change, push_screen, size_of};
 use crate::streams::scene::Scene;
-use crate::streams::watcher::Watcher;
-use crate::turn::Turn;
-use crate::words::named;
+use crate::streams::watcher::{Watcher, push_returned};
+use playing::error::PlayError;
+use playing::play::Play;
+use playing::turn::Turn;
+use playing::words::named;
 use std::alloc::Global;
 use termwiz_cell::emoji::UnicodeWidths;
 use termwiz_share::Source;
@@ -87,17 +88,17 @@ impl Stage {
             }
             "source-shown" => {
                 if let Some(source) = turn.numbered(&mut self.sources) {
-                    turn.push_screen(source.surface());
+                    push_screen(turn, source.surface());
                 }
             }
             "add" => {
                 let source = turn.numbered(&mut self.sources);
                 let words = turn.rest();
-                let changes = turn.changes_of(words);
+                let changes = changes_of(turn, words);
                 if let Some(source) = source
                     && !turn.has_failed()
                 {
-                    turn.note_change(source.add_changes(changes));
+                    note_change(turn, source.add_changes(changes));
                 }
             }
             "pass" => self.pass(turn).unwrap_or(()),
@@ -114,7 +115,7 @@ impl Stage {
     fn value(&mut self, turn: &mut Turn<'_>, kind: Kind) {
         let word = turn.word();
         let bytes = turn.bytes_of(word);
-        if !turn.decode(kind, bytes.as_slice(), true) {
+        if !decode(turn, kind, bytes.as_slice(), true) {
             turn.push_str("its encoding differs\n");
         }
         if kind != Kind::Narrow && kind != Kind::Head {
@@ -130,7 +131,7 @@ impl Stage {
         let watcher = turn.numbered(&mut self.watchers)?;
         let response = turn.kept(watcher.response.clone())?;
         let watcher = turn.numbered(&mut self.watchers)?;
-        turn.push_returned(pass_on(&mut watcher.client, response.as_slice()));
+        push_returned(turn, pass_on(&mut watcher.client, response.as_slice()));
         Some(())
     }
 
@@ -158,7 +159,7 @@ impl Stage {
 // A source of the number and the size that the next words write.
 fn source(turn: &mut Turn<'_>) -> Option<Source<UnicodeWidths>> {
     let (number, size) = (turn.number(), turn.word());
-    let (width, height) = turn.size_of(size);
+    let (width, height) = size_of(turn, size);
     if number == 0 {
         turn.fail(PlayError::Bad);
         return None;

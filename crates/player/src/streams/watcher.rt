@@ -1,6 +1,7 @@
 //! A client, and the response to its ask.
-use crate::error::PlayError;
-use crate::turn::Turn;
+use crate::streams::given::push_screen;
+use playing::error::PlayError;
+use playing::turn::Turn;
 use std::fmt::Debug;
 use termwiz_cell::emoji::UnicodeWidths;
 use termwiz_share::{Client, ClientError, Source};
@@ -36,7 +37,7 @@ impl Watcher {
     pub fn play(&mut self, turn: &mut Turn<'_>, what: &str) {
         match what {
             "asks" => self.ask(turn),
-            "client-shown" => turn.push_screen(self.client.surface()),
+            "client-shown" => push_screen(turn, self.client.surface()),
             "number" => {
                 let (source, number) = (self.client.source(), self.client.number());
                 let bytes = self.response.len();
@@ -45,13 +46,13 @@ impl Watcher {
             "show-each" => {
                 let mut screens = Vec::new(turn.alloc);
                 let response = self.response.as_slice();
-                turn.push_returned(show_each(&mut self.client, response, &mut screens));
+                push_returned(turn, show_each(&mut self.client, response, &mut screens));
                 write!(turn, " stale, {} shown", screens.len());
             }
             "feed" | "keep" | "take" => {
                 let part = if turn.is_read() { "all" } else { turn.word() };
                 let returned = self.give(turn, what, part);
-                turn.push_returned(returned);
+                push_returned(turn, returned);
             }
             _ => turn.fail(PlayError::Bad),
         }
@@ -63,7 +64,7 @@ impl Watcher {
         let begun = bytes.extend_from_slice(&BEFORE);
         turn.note(begun);
         let encoded = self.client.encode_ask(&mut bytes);
-        let appended = turn.appended(bytes.as_slice());
+        let appended = appended(turn, bytes.as_slice());
         turn.note(encoded);
         if turn.has_failed() {
             return;
@@ -78,7 +79,7 @@ impl Watcher {
     /// Has the response of a source to what the client asked. Where memory is refused, the source
     /// shows what it showed, and has the number that it had, and as many changes.
     pub fn receive(&mut self, turn: &mut Turn<'_>, source: &mut Source<UnicodeWidths>) {
-        let before = turn.state_of(source);
+        let before = state_of(turn, source);
         let mut bytes = Vec::new(turn.alloc);
         let begun = bytes.extend_from_slice(&BEFORE);
         turn.note(begun);
@@ -86,8 +87,8 @@ impl Watcher {
             return;
         }
         let responded = source.respond(self.ask, &mut bytes);
-        let appended = turn.appended(bytes.as_slice());
-        if responded.is_err() && turn.state_of(source) != before {
+        let appended = appended(turn, bytes.as_slice());
+        if responded.is_err() && state_of(turn, source) != before {
             turn.fail(PlayError::Differs);
         }
         turn.note(responded);
@@ -170,31 +171,32 @@ impl Watcher {
     }
 }
 
-impl Turn<'_> {
-    /// Answers what a call returned, unless memory was refused to it.
-    pub fn push_returned<T: Debug + Drop>(&mut self, returned: Result<T, ClientError>) {
-        match returned {
-            Ok(value) => write!(self, "{value:?}"),
-            Err(ClientError::Memory) => self.fail(PlayError::Memory),
-            Err(error) => write!(self, "refused: {error}"),
+/// Answers what a call returned, unless memory was refused to it.
+pub fn push_returned<T: Debug + Drop>(turn: &mut Turn<'_>, returned: Result<T, ClientError>) {
+    match returned {
+        Ok(value) => write!(turn, "{value:?}"),
+        Err(ClientError::Memory) => turn.fail(PlayError::Memory),
+        Err(error) => write!(turn, "refused: {error}"),
+    }
+}
+
+// What a call appended to a buffer, which has to begin as it did.
+fn appended<'b>(turn: &mut Turn<'_>, bytes: &'b [u8]) -> &'b [u8] {
+    match bytes.strip_prefix(&BEFORE) {
+        Some(appended) => appended,
+        None => {
+            turn.fail(PlayError::Differs);
+            &[]
         }
     }
+}
 
-    // What a call appended to a buffer, which has to begin as it did.
-    fn appended<'b>(&mut self, bytes: &'b [u8]) -> &'b [u8] {
-        match bytes.strip_prefix(&BEFORE) {
-            Some(appended) => appended,
-            None => {
-                self.fail(PlayError::Differs);
-                &[]
-            }
-        }
-    }
-
-    // What a source shows, its number, and how many changes are due from the first one on.
-    fn state_of(&mut self, source: &Source<UnicodeWidths>) -> Option<(FullScreen, usize, usize)> {
-        let shown = self.kept(source.surface().full_screen())?;
-        let (number, changes) = self.kept(source.surface().get_changes(1))?;
-        Some((shown, number, changes.len()))
-    }
+// What a source shows, its number, and how many changes are due from the first one on.
+fn state_of(
+    turn: &mut Turn<'_>,
+    source: &Source<UnicodeWidths>,
+) -> Option<(FullScreen, usize, usize)> {
+    let shown = turn.kept(source.surface().full_screen())?;
+    let (number, changes) = turn.kept(source.surface().get_changes(1))?;
+    Some((shown, number, changes.len()))
 }

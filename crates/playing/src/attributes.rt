@@ -9,7 +9,7 @@ use termwiz_cell::hyperlink::Hyperlink;
 
 impl Turn<'_> {
     /// The change that a word names.
-    pub fn attribute_of(&mut self, word: &str) -> AttributeChange {
+    pub(crate) fn attribute_of(&mut self, word: &str) -> AttributeChange {
         match word.split_once('=') {
             Some((name, value)) => {
                 let color = self.found(color_of(value));
@@ -23,7 +23,7 @@ impl Turn<'_> {
     }
 
     /// A link to `u`.
-    pub fn link(&mut self) -> Option<Rc<Hyperlink>> {
+    pub(crate) fn link(&mut self) -> Option<Rc<Hyperlink>> {
         let uri = self.kept("u".to_owned(self.alloc))?;
         let link = Rc::new(self.alloc, Hyperlink::new(self.alloc, uri));
         self.kept(link)

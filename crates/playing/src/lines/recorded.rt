@@ -27,7 +27,7 @@ const NAMES: [(&str, &str); 12] = [
 
 impl Stage {
     /// Makes a call on the line in a register.
-    pub fn call(&mut self, turn: &mut Turn<'_>) {
+    pub(crate) fn call(&mut self, turn: &mut Turn<'_>) {
         self.on = turn.number();
         let word = turn.word();
         match named(&NAMES, word).unwrap_or(word) {

@@ -43,7 +43,7 @@ impl Turn<'_> {
     }
 
     /// Answers the word of a text: letters, digits, `=`, `;` and `,` stand for themselves.
-    pub fn push_escaped(&mut self, text: &str) {
+    pub(crate) fn push_escaped(&mut self, text: &str) {
         if text.is_empty() {
             self.push_str(EMPTY);
         }

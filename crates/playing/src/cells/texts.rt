@@ -8,7 +8,7 @@ use unicode_segmentation::UnicodeSegmentation;
 impl<'a> Turn<'a> {
     /// The text between quotes, which is all that is left to read. The pictures of control
     /// characters stand for these, in the texts here.
-    pub fn quoted(&mut self) -> &'a str {
+    pub(crate) fn quoted(&mut self) -> &'a str {
         let words = self.rest();
         let words = words.strip_prefix('"').unwrap_or(words);
         match words.strip_suffix('"').unwrap_or(words) {
@@ -22,13 +22,13 @@ impl<'a> Turn<'a> {
     }
 
     /// A text in memory of its own.
-    pub fn owned(&mut self, text: &str) -> String {
+    pub(crate) fn owned(&mut self, text: &str) -> String {
         self.kept(text.to_owned(self.alloc))
             .unwrap_or(String::new(self.alloc))
     }
 
     /// The copy of a value, if it is to be copied, or else the value.
-    pub fn copied<T: Clone>(&mut self, value: T, copies: bool) -> T {
+    pub(crate) fn copied<T: Clone>(&mut self, value: T, copies: bool) -> T {
         if copies {
             self.kept(value.clone()).unwrap_or(value)
         } else {
@@ -37,7 +37,7 @@ impl<'a> Turn<'a> {
     }
 
     /// Answers a mark, and the word of a text after it.
-    pub fn push_word(&mut self, mark: &str, text: &str) {
+    pub(crate) fn push_word(&mut self, mark: &str, text: &str) {
         self.push_str(mark);
         self.push_escaped(text);
     }

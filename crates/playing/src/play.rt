@@ -116,14 +116,18 @@ impl<'a> Above<'a> {
 }
 
 /// Plays a line, and returns the lines of its answer.
-pub fn answer<P: Play>(alloc: Global, line: &str, play: &mut P) -> Result<String, PlayError> {
+pub(crate) fn answer<P: Play>(
+    alloc: Global,
+    line: &str,
+    play: &mut P,
+) -> Result<String, PlayError> {
     let mut turn = Turn::new(alloc, line)?;
     play.line(&mut turn);
     turn.into_answer()
 }
 
 /// Adds each line after a mark.
-pub fn push_lines(printed: &mut String, mark: &str, lines: &str) -> Result<(), PlayError> {
+pub(crate) fn push_lines(printed: &mut String, mark: &str, lines: &str) -> Result<(), PlayError> {
     for line in lines.lines() {
         push_line(printed, mark, line)?;
     }

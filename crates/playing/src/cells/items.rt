@@ -73,7 +73,7 @@ fn push_call(turn: &mut Turn<'_>, reader: &mut Reader<'_>, call: &str) {
 
 impl Turn<'_> {
     /// Answers a mark, and what `{:?}` shows of a value after it.
-    pub fn push_shown<T: Debug + Drop>(&mut self, mark: &str, value: T) {
+    pub(crate) fn push_shown<T: Debug + Drop>(&mut self, mark: &str, value: T) {
         write!(self, "{mark}{value:?}");
     }
 }

@@ -8,6 +8,6 @@ mod edits;
 mod makes;
 mod pens;
 mod readings;
-pub mod recorded;
+mod recorded;
 pub mod stage;
 mod words;

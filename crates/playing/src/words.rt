@@ -31,7 +31,7 @@ pub fn named<T: Copy>(names: &[(&str, T)], word: &str) -> Option<T> {
 }
 
 /// The first name of a value in a table of names, or no word.
-pub fn name_of<T: PartialEq>(names: &[(&'static str, T)], value: &T) -> &'static str {
+pub(crate) fn name_of<T: PartialEq>(names: &[(&'static str, T)], value: &T) -> &'static str {
     for (name, named) in names {
         if named == value {
             return name;
@@ -42,7 +42,7 @@ pub fn name_of<T: PartialEq>(names: &[(&'static str, T)], value: &T) -> &'static
 
 /// A colour: `default`, an index of the palette, `maroon`, `true`, which is black or else the
 /// palette's 7, or `#RRGGBB`, with `+` and an index after it where it falls back to the palette.
-pub fn color_of(word: &str) -> Option<ColorAttribute> {
+pub(crate) fn color_of(word: &str) -> Option<ColorAttribute> {
     match word {
         "default" => Some(ColorAttribute::Default),
         "maroon" => Some(AnsiColor::Maroon.into()),
@@ -74,7 +74,7 @@ impl Turn<'_> {
     }
 
     /// Answers the word of a colour.
-    pub fn push_color(&mut self, color: ColorAttribute) {
+    pub(crate) fn push_color(&mut self, color: ColorAttribute) {
         match color {
             ColorAttribute::Default => self.push_str("default"),
             ColorAttribute::PaletteIndex(index) => write!(self, "{index}"),
@@ -100,7 +100,7 @@ impl Turn<'_> {
 
     /// The place of the next word: `=` and a number from the start, `$` and one from the end, or
     /// `~` and a distance.
-    pub fn position(&mut self) -> Position {
+    pub(crate) fn position(&mut self) -> Position {
         let word = self.word();
         if let Some(number) = word.strip_prefix('=') {
             return Position::Absolute(self.number_of(number));
@@ -113,12 +113,12 @@ impl Turn<'_> {
     }
 
     /// The shape that the next word names.
-    pub fn shape(&mut self) -> CursorShape {
+    pub(crate) fn shape(&mut self) -> CursorShape {
         self.named(&SHAPES, CursorShape::Default)
     }
 
     /// The size of a line that the next word names.
-    pub fn line_attribute(&mut self) -> LineAttribute {
+    pub(crate) fn line_attribute(&mut self) -> LineAttribute {
         self.named(&LINE_ATTRIBUTES, LineAttribute::SingleWidthLine)
     }
 

@@ -57,7 +57,7 @@ impl Turn<'_> {
     }
 
     /// Makes of a pen what a word says, unless there was a fault.
-    pub fn put(&mut self, pen: &mut CellAttributes, word: &str) {
+    pub(crate) fn put(&mut self, pen: &mut CellAttributes, word: &str) {
         if let Some(change) = word.strip_prefix('+') {
             return self.apply(pen, change);
         }

@@ -1,7 +1,7 @@
 use Rattle.std.proofs.Common.{length}
 use denote.Text.{Utf8}
 use denote.Shadow.{shadow}
-use Rattle.player.proofs.turn.Turn.unescaped.Given as goal
+use Rattle.playing.proofs.turn.Turn.unescaped.Given as goal
 
 -- What is left is text.
 abbrev pub invariant-loop-before : goal.invariant-loop-before

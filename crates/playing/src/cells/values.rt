@@ -33,7 +33,7 @@ pub fn color(turn: &mut Turn<'_>) {
 
 impl Turn<'_> {
     /// Answers both texts of a colour, with `between` between them.
-    pub fn push_texts(&mut self, color: RgbColor, between: &str) {
+    pub(crate) fn push_texts(&mut self, color: RgbColor, between: &str) {
         self.push_made(color.to_rgb_string(self.alloc));
         self.push_str(between);
         self.push_made(color.to_x11_16bit_rgb_string(self.alloc));

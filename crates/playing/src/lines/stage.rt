@@ -15,8 +15,8 @@ const REGISTERS: usize = 4;
 /// The lines of a case by their numbers, from 0, and the number of the one for edits and questions.
 #[derive(Drop)]
 pub struct Stage {
-    pub lines: Vec<Line>,
-    pub on: usize,
+    pub(crate) lines: Vec<Line>,
+    pub(crate) on: usize,
     compresses: bool,
 }
 
@@ -79,7 +79,7 @@ impl Stage {
     }
 
     /// Makes, edits or joins lines, which answers nothing.
-    pub fn command(&mut self, name: &str, turn: &mut Turn<'_>) {
+    pub(crate) fn command(&mut self, name: &str, turn: &mut Turn<'_>) {
         match name {
             "on" => self.on = turn.number(),
             "new" | "clone" | "part" | "split" | "resized" => self.add(name, turn),
@@ -98,12 +98,12 @@ impl Stage {
     }
 
     /// The line for edits and questions.
-    pub fn own(&mut self, turn: &mut Turn<'_>) -> Option<&mut Line> {
+    pub(crate) fn own(&mut self, turn: &mut Turn<'_>) -> Option<&mut Line> {
         turn.found(self.lines.get_mut(self.on))
     }
 
     /// Whether that line equals the one of the number that is read.
-    pub fn is_same(&self, turn: &mut Turn<'_>) -> bool {
+    pub(crate) fn is_same(&self, turn: &mut Turn<'_>) -> bool {
         match (self.lines.get(self.on), self.lines.get(turn.number())) {
             (Some(own), Some(other)) => *own == *other,
             _ => {
@@ -132,7 +132,7 @@ impl Stage {
     }
 
     /// The line that the words make, or that comes of the one for edits.
-    pub fn made(&mut self, name: &str, turn: &mut Turn<'_>) -> Option<Line> {
+    pub(crate) fn made(&mut self, name: &str, turn: &mut Turn<'_>) -> Option<Line> {
         if name == "new" {
             return make(turn.word(), turn);
         }
@@ -148,7 +148,7 @@ impl Stage {
     }
 
     /// The pieces into which a copy is wrapped, by a width and a number that are read.
-    pub fn pieces(&mut self, turn: &mut Turn<'_>) -> Option<Vec<Line>> {
+    pub(crate) fn pieces(&mut self, turn: &mut Turn<'_>) -> Option<Vec<Line>> {
         let (width, seqno) = turn.pair();
         let line = self.own(turn)?;
         let copy = turn.kept(line.clone())?;

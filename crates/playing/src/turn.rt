@@ -25,7 +25,7 @@ pub struct Turn<'a> {
 }
 
 impl<'a> Turn<'a> {
-    pub fn new(alloc: Global, line: &'a str) -> Result<Turn<'a>, AllocError> {
+    pub(crate) fn new(alloc: Global, line: &'a str) -> Result<Turn<'a>, AllocError> {
         Ok(Turn {
             alloc,
             rest: line,
@@ -35,7 +35,7 @@ impl<'a> Turn<'a> {
     }
 
     /// The answer, or the first fault.
-    pub fn into_answer(self) -> Result<String, PlayError> {
+    pub(crate) fn into_answer(self) -> Result<String, PlayError> {
         match self.fault {
             Some(fault) => Err(fault),
             None => Ok(self.answer),
@@ -78,6 +78,14 @@ impl<'a> Turn<'a> {
         }
     }
 
+    /// Adds what a call made to a list, unless it failed.
+    pub fn keep<T: Drop>(&mut self, list: &mut Vec<T>, made: Option<T>) {
+        if let Some(made) = made {
+            let pushed = list.push(made);
+            self.note(pushed);
+        }
+    }
+
     /// Nothing, since memory was refused to a call.
     pub fn refused<T: Drop>(&mut self) -> Option<T> {
         self.fail(PlayError::Memory);
@@ -98,7 +106,7 @@ impl<'a> Turn<'a> {
     }
 
     /// Reads these words from now on.
-    pub fn read(&mut self, words: &'a str) {
+    pub(crate) fn read(&mut self, words: &'a str) {
         self.rest = words;
     }
 
@@ -121,7 +129,7 @@ impl<'a> Turn<'a> {
     }
 
     /// The two sides of a question that compares.
-    pub fn sides(&mut self) -> (&'a str, &'a str) {
+    pub(crate) fn sides(&mut self) -> (&'a str, &'a str) {
         let sides = self.rest.split_once(" | ");
         self.found(sides).unwrap_or(("", ""))
     }
@@ -157,8 +165,14 @@ impl<'a> Turn<'a> {
         (first, self.number())
     }
 
+    /// The one of a list that the next word numbers.
+    pub fn numbered<'b, T>(&mut self, list: &'b mut Vec<T>) -> Option<&'b mut T> {
+        let number = self.number();
+        self.found(list.get_mut(number))
+    }
+
     /// `true` or `false`, or `1` or `0`.
-    pub fn truth(&mut self) -> bool {
+    pub(crate) fn truth(&mut self) -> bool {
         self.named(&TRUTHS, false)
     }
 
@@ -169,7 +183,7 @@ impl<'a> Turn<'a> {
     }
 
     /// Whether nothing was answered so far.
-    pub fn is_unanswered(&self) -> bool {
+    pub(crate) fn is_unanswered(&self) -> bool {
         self.answer.is_empty()
     }
 
@@ -192,7 +206,7 @@ impl<'a> Turn<'a> {
     }
 
     /// Answers a text that a call made, unless it failed.
-    pub fn push_made(&mut self, made: Result<String, AllocError>) {
+    pub(crate) fn push_made(&mut self, made: Result<String, AllocError>) {
         match made {
             Ok(text) => self.push_str(text.as_str()),
             Err(_) => self.fail(PlayError::Memory),

@@ -64,6 +64,13 @@ owns-all all old i own done o j = elim (cases_lt j i) [
   | inr past ↦ get_or_past own j 0 (omega (arith, o.count)) ∙ sym (get_or_past (numbers_over all old) j 0 (omega (arith, length-map old (max all))))
 ]
 
+-- each has its number as its own
+pub over-owned : (all : ℕ) (own old : List ℕ) → length own ≡ length old → ((j : ℕ) → get_or own j 0 ≡ get_or (numbers_over all old) j 0) → (j : ℕ) → get_or (numbers_over 0 own) j 0 ≡ get_or (numbers_over all old) j 0
+over-owned all own old count same j = elim (cases_lt j (length own)) [
+  | inl l ↦ over-at 0 own j l ∙ (let none : max 0 (get_or own j 0) ≡ get_or own j 0 = omega arith in none) ∙ same j
+  | inr past ↦ get_or_past (numbers_over 0 own) j 0 (omega (arith, past, length-map own (max 0))) ∙ sym (get_or_past (numbers_over all old) j 0 (omega (arith, past, count, length-map old (max all))))
+]
+
 -- one more row comes in
 pub comes-in : (own xs : List ℕ) (n : ℕ) → length own ≡ n → length xs ≤ n → ((j : ℕ) → j < n → get_or own j 0 ≡ get_or xs j 0) → (j : ℕ) → j < n + 1 → get_or (own ++ 0 ∷ []) j 0 ≡ get_or xs j 0
 comes-in own xs n e le same j l = elim (cases_lt j n) [
@@ -123,15 +130,35 @@ marked-all all number more own n e is =
       ];
     }
 
--- rows are taken with their own numbers, and those from one on are marked
-pub renewed : (height first number : ℕ) (old own new : List ℕ) → first ≤ height → length own ≡ height → ((j : ℕ) → j < height → get_or own j 0 ≡ get_or old j 0) → AreMarked first (height - first) number (numbers_over 0 own) new → AreRenewed height first number old new
-renewed height first number old own new inside count same m =
-    let zero_over : (j : ℕ) → j < height → get_or (numbers_over 0 own) j 0 ≡ get_or old j 0 =
-    λ j l. over-at 0 own j (omega (arith, count)) ∙ (let none : max 0 (get_or own j 0) ≡ get_or own j 0 = omega arith in none) ∙ same j l in
+-- all rows, as a range of them
+pub marked-whole : (first count n number : ℕ) (old new : List ℕ) → count ≡ n → first + count ≤ n → AreMarked 0 n number old new → AreMarked first count number old new
+marked-whole first count n number old new all inside m = record {
+  same_count = m.same_count;
+  inside = λ j from to. m.inside j (omega arith) (omega (arith, all, inside));
+  outside = λ j out. elim out [
+    | inl before ↦ absurd (omega (arith, all, inside))
+    | inr behind ↦ m.outside j (inr (omega (arith, all, inside)))
+  ];
+}
+
+-- rows are taken with their own numbers, which were `before`, over one for all rows that isn't
+-- above the new number, and those from one on are marked
+pub renewed : (height first number all : ℕ) (old before own new : List ℕ) → first ≤ height → first ≤ length before → all ≤ number → length own ≡ height → ((j : ℕ) → get_or (numbers_over all before) j 0 ≡ get_or old j 0) → ((j : ℕ) → j < height → get_or own j 0 ≡ get_or before j 0) → AreMarked first (height - first) number (numbers_over all own) new → AreRenewed height first number old new
+renewed height first number all old before own new inside there bounded count was same m =
+    let over : (j : ℕ) → j < height → j < length before → get_or (numbers_over all own) j 0 ≡ get_or old j 0 =
+    λ j l k. over-at all own j (omega (arith, count)) ∙ ap (max all) (same j l) ∙ sym (over-at all before j k) ∙ was j in
+    let marked_over : (j : ℕ) → j < height → max number (get_or (numbers_over all own) j 0) ≡ max number (get_or old j 0) =
+    λ j l. elim (cases_lt j (length before)) [
+      | inl known ↦ ap (max number) (over j l known)
+      | inr past ↦
+          let own_zero : get_or own j 0 ≡ 0 = same j l ∙ get_or_past before j 0 past in
+          let old_zero : get_or old j 0 ≡ 0 = sym (was j) ∙ get_or_past (numbers_over all before) j 0 (omega (arith, past, length-map before (max all))) in
+          omega (arith, over-at all own j (omega (arith, count)), own_zero, old_zero, bounded)
+    ] in
     record {
-      count = m.same_count ∙ length-map own (max 0) ∙ count;
-      kept = λ j before. m.outside j (inl before) ∙ zero_over j (omega arith);
-      marked = λ j from l. m.inside j from (omega arith) ∙ ap (max number) (zero_over j l);
+      count = m.same_count ∙ length-map own (max all) ∙ count;
+      kept = λ j below. m.outside j (inl below) ∙ over j (omega arith) (omega arith);
+      marked = λ j from l. m.inside j from (omega arith) ∙ marked_over j l;
     }
 
 module _ {W : Type 0} where

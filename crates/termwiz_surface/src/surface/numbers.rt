@@ -62,6 +62,9 @@ impl RowNumbers {
             (numbers_over self.new.all self.new.own.items) }
         ensures len { vec_len self.new.own ≡ vec_len self.old.own }
     {
+        if count == self.own.len() {
+            return self.mark_all(number);
+        }
         for row in first..first + count {
             self.mark_row(row, number);
         }
@@ -82,6 +85,7 @@ impl RowNumbers {
         ensures room { OnOk result (height ≤ vec_capacity self.new.own) }
         ensures all { self.new.all ≡ self.old.all }
         ensures own { self.new.own.items ≡ self.old.own.items }
+        ensures len { vec_len self.new.own ≡ vec_len self.old.own }
     {
         self.own.reserve(height.saturating_sub(self.own.len()))
     }
@@ -98,22 +102,48 @@ impl RowNumbers {
         }
     }
 
+    // Makes the number that all rows have at most this one. Each row has the number that it had.
+    fn bound_all(&mut self, number: SequenceNo)
+        ensures bounded { self.new.all ≤ number }
+        ensures same { (j : ℕ) →
+            slice_index_or (numbers_over self.new.all self.new.own.items) j 0
+            ≡ slice_index_or (numbers_over self.old.all self.old.own.items) j 0 }
+        ensures len { vec_len self.new.own ≡ vec_len self.old.own }
+        ensures capacity { vec_capacity self.new.own ≡ vec_capacity self.old.own }
+    {
+        if self.all > number {
+            self.own_all();
+            self.all = SEQ_ZERO;
+        }
+    }
+
+    // Takes `height` rows: the last ones go, or new ones come with 0 as their own number.
+    fn fit(&mut self, height: usize)
+        requires room { height ≤ vec_capacity self.old.own }
+        ensures own { (j : ℕ) → j < height →
+            slice_index_or self.new.own.items j 0 ≡ slice_index_or self.old.own.items j 0 }
+        ensures all { self.new.all ≡ self.old.all }
+        ensures len { vec_len self.new.own ≡ height }
+    {
+        self.own.truncate(height);
+        for _row in self.own.len()..height {
+            self.own.push_reserved(SEQ_ZERO);
+        }
+    }
+
     /// Takes `height` rows, and gives those from `first` on this number, unless they have greater
     /// ones.
     pub(super) fn renew(&mut self, height: usize, first: usize, number: SequenceNo)
         requires room { height ≤ vec_capacity self.old.own }
         requires inside { first ≤ height }
+        requires kept { first ≤ vec_len self.old.own }
         ensures marked { AreRenewed height first number
             (numbers_over self.old.all self.old.own.items)
             (numbers_over self.new.all self.new.own.items) }
         ensures len { vec_len self.new.own ≡ height }
     {
-        self.own_all();
-        self.all = SEQ_ZERO;
-        self.own.truncate(height);
-        for _row in self.own.len()..height {
-            self.own.push_reserved(SEQ_ZERO);
-        }
+        self.bound_all(number);
+        self.fit(height);
         self.mark_rows(first, height - first, number);
     }
 }

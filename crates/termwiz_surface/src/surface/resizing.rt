@@ -55,6 +55,7 @@ impl<W: Widths> Surface<W> {
     // The first row that a resize touches: it touches each one from there on.
     fn first_touched(&self, width: usize, height: usize) -> usize
         ensures inside { result ≤ height }
+        ensures kept { result ≤ self.now.height }
         ensures touched { (j : ℕ) → j < height →
             resize_touches self.now width j ≡ nat_le result j }
     {

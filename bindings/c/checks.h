@@ -128,6 +128,20 @@ static inline bool link_is(tk_handle *handle, size_t column, size_t row, const c
     return is(status, uri, len, wanted);
 }
 
+/* Whether the pen's link, or with a column of row 0 that of the cell there, has this param at this
+ * index. */
+static inline bool has_param(tk_handle *handle, const size_t *column, size_t index,
+                             const char *key, const char *value) {
+    char own_key[8], own_value[8];
+    size_t len = 99, value_len = 99;
+    tk_status status = column == NULL
+                           ? tk_pen_link_param(handle, index, own_key, sizeof own_key, &len,
+                                               own_value, sizeof own_value, &value_len)
+                           : tk_link_param_at(handle, *column, 0, index, own_key, sizeof own_key,
+                                              &len, own_value, sizeof own_value, &value_len);
+    return is(status, own_key, len, key) && is(status, own_value, value_len, value);
+}
+
 static inline bool cursor_is(tk_handle *handle, size_t column, size_t row) {
     size_t x = 99, y = 99;
     return tk_cursor(handle, &x, &y) == TK_DONE && x == column && y == row;

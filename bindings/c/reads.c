@@ -155,19 +155,6 @@ static tk_status set_link(tk_handle *surface) {
     return tk_add_encoded(surface, list, sizeof list);
 }
 
-/* Whether the pen's link, or with a column that of the cell there, has this param at this index. */
-static bool has_param(tk_handle *handle, const size_t *column, size_t index, const char *key,
-                      const char *value) {
-    char own_key[8], own_value[8];
-    size_t len = 99, value_len = 99;
-    tk_status status = column == NULL
-                           ? tk_pen_link_param(handle, index, own_key, sizeof own_key, &len,
-                                               own_value, sizeof own_value, &value_len)
-                           : tk_link_param_at(handle, *column, 0, index, own_key, sizeof own_key,
-                                              &len, own_value, sizeof own_value, &value_len);
-    return is(status, own_key, len, key) && is(status, own_value, value_len, value);
-}
-
 static void test_params(void) {
     tk_handle surface = made(4, 1), client = made_client(), none = TK_NONE;
     char key[2] = "..", value[2] = "..";

@@ -3,6 +3,7 @@
 use crate::color::ColorAttribute;
 use crate::error::Error;
 use crate::ffi::tk_attributes;
+use std::fmt;
 
 /// Finds the variants of an enum by their numbers, which the header for C has in this order.
 macro_rules! number_variants {
@@ -190,23 +191,83 @@ impl From<&Attributes> for tk_attributes {
     }
 }
 
-/// A link, which a text may have.
-#[derive(Clone, PartialEq, Eq, Hash, Debug)]
+/// A link, which a text may have: to a uri, and with an id or none.
+#[derive(Clone, PartialEq, Eq, Hash)]
 pub struct Hyperlink {
-    uri: String,
+    /// The uri, and the id behind it, as the library reads them.
+    text: Box<str>,
+    id_len: usize,
 }
 
 impl Hyperlink {
     /// A link to this uri.
     #[must_use]
     pub fn new(uri: impl Into<String>) -> Hyperlink {
-        Hyperlink { uri: uri.into() }
+        Hyperlink {
+            text: uri.into().into_boxed_str(),
+            id_len: 0,
+        }
+    }
+
+    /// A link to this uri with this id: texts that have such links are one link to a terminal,
+    /// wherever they stand. An empty id is none.
+    ///
+    /// ```
+    /// use tikeburo::{AttributeChange, Error, Hyperlink, Surface};
+    ///
+    /// let mut surface = Surface::new(8, 2)?;
+    /// let link = Hyperlink::new_with_id("https://example.org/", "7");
+    /// surface.add_change(AttributeChange::Hyperlink(Some(link.clone())))?;
+    /// surface.add_change("a link in two rows")?;
+    /// let cell = surface.row(1).cell(0)?;
+    /// assert_eq!(cell.attrs().hyperlink(), Some(&link));
+    /// assert_eq!((link.uri(), link.id()), ("https://example.org/", Some("7")));
+    /// # Ok::<(), Error>(())
+    /// ```
+    #[must_use]
+    pub fn new_with_id(uri: impl Into<String>, id: impl Into<String>) -> Hyperlink {
+        let (mut text, id) = (uri.into(), id.into());
+        text.push_str(&id);
+        Hyperlink {
+            text: text.into_boxed_str(),
+            id_len: id.len(),
+        }
+    }
+
+    /// The link that a text is, of which this many bytes at the end are the id.
+    pub(crate) fn of_text(text: &str, id_len: usize) -> Hyperlink {
+        let text = text.into();
+        Hyperlink { text, id_len }
+    }
+
+    /// The text that it is, and how many bytes at its end are the id.
+    pub(crate) fn as_text(&self) -> (&str, usize) {
+        (&self.text, self.id_len)
+    }
+
+    fn split(&self) -> (&str, &str) {
+        self.text.split_at(self.text.len() - self.id_len)
     }
 
     /// What it links to.
     #[must_use]
     pub fn uri(&self) -> &str {
-        &self.uri
+        self.split().0
+    }
+
+    /// Its id, if it has one.
+    #[must_use]
+    pub fn id(&self) -> Option<&str> {
+        Some(self.split().1).filter(|id| !id.is_empty())
+    }
+}
+
+impl fmt::Debug for Hyperlink {
+    fn fmt(&self, f: &mut fmt::Formatter<'_>) -> fmt::Result {
+        f.debug_struct("Hyperlink")
+            .field("uri", &self.uri())
+            .field("id", &self.id())
+            .finish()
     }
 }
 

@@ -173,18 +173,20 @@ impl Changes {
         self.position(Position::Relative(columns), Position::Relative(rows))
     }
 
-    /// Sets the whole pen, the attributes of coming texts. A link to an empty uri is none here:
-    /// [`Changes::link`] gives one.
+    /// Sets the whole pen, the attributes of coming texts. A link to an empty uri that has no id is
+    /// none here: [`Changes::link`] gives one.
     pub fn pen(&mut self, attributes: &Attributes) -> &mut Changes {
         let fields = attributes.into();
         let hyperlink = attributes.hyperlink.clone();
         self.pen = Some(Pen { fields, hyperlink });
-        let uri = attributes.hyperlink.as_ref().map_or("", Hyperlink::uri);
-        self.texts.push_str(uri);
+        let link = attributes.hyperlink.as_ref();
+        let (text, id_len) = link.map_or(("", 0), Hyperlink::as_text);
+        self.texts.push_str(text);
         self.item(tk_change {
             kind: ffi::CHANGE_PEN,
             attributes: fields,
-            first: uri.len(),
+            first: text.len(),
+            second: id_len,
             ..tk_change::default()
         })
     }
@@ -269,7 +271,9 @@ impl Changes {
                 fields.background = (*color).into();
                 ffi::CHANGE_BACKGROUND
             }
-            AttributeChange::Hyperlink(Some(link)) => return self.link(link.uri()),
+            AttributeChange::Hyperlink(Some(link)) => {
+                return self.link_with_id(link.uri(), link.id().unwrap_or_default())
+            }
             AttributeChange::Hyperlink(None) => return self.no_link(),
         };
         self.with_attributes(kind, fields)
@@ -322,8 +326,15 @@ impl Changes {
 
     /// Gives them a link to this uri.
     pub fn link(&mut self, uri: &str) -> &mut Changes {
+        self.link_with_id(uri, "")
+    }
+
+    /// Gives them a link to this uri with this id, as [`Hyperlink::new_with_id`] has one.
+    pub fn link_with_id(&mut self, uri: &str, id: &str) -> &mut Changes {
         self.pen = None;
-        self.with_text(ffi::CHANGE_LINK, uri)
+        self.texts.push_str(uri);
+        self.texts.push_str(id);
+        self.with_numbers(ffi::CHANGE_LINK, [uri.len() + id.len(), id.len(), 0])
     }
 
     /// Gives them no link.

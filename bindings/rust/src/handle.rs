@@ -95,12 +95,20 @@ pub(crate) fn text(write: impl FnMut(*mut u8, usize, *mut usize) -> i32) -> Resu
     String::from_utf8(bytes).map_err(|_| Error::Unreadable)
 }
 
-/// The params of a link, each of which this call writes by its index, its key and its value as
-/// `text` has one, until it has no more. The call is passed the index, and for the two a buffer,
-/// its room, and where it writes their length.
-pub(crate) fn params(
-    mut write: impl FnMut(usize, *mut u8, usize, *mut usize, *mut u8, usize, *mut usize) -> i32,
-) -> Result<Vec<(String, String)>, Error> {
+/// A call that writes a param of a link, until it has no more: it is passed the param's index, and
+/// for its key and its value a buffer, its room, and where it writes their length.
+pub(crate) trait WriteParam:
+    FnMut(usize, *mut u8, usize, *mut usize, *mut u8, usize, *mut usize) -> i32
+{
+}
+
+impl<F> WriteParam for F where
+    F: FnMut(usize, *mut u8, usize, *mut usize, *mut u8, usize, *mut usize) -> i32
+{
+}
+
+/// The params that this call writes.
+pub(crate) fn params(mut write: impl WriteParam) -> Result<Vec<(String, String)>, Error> {
     let mut params = Vec::new();
     let (mut key, mut value) = (vec![0; 32], vec![0; 128]);
     loop {
@@ -126,6 +134,34 @@ pub(crate) fn params(
             }
         }
     }
+}
+
+/// The value of the param `id` among those that this call writes, or an empty text. A link mostly
+/// has no other param, and then the call is made once.
+pub(crate) fn id(mut write: impl WriteParam) -> Result<String, Error> {
+    let (mut key, mut value) = ([0; 2], [0; 128]);
+    let (mut key_len, mut value_len) = (0, 0);
+    let status = write(
+        0,
+        key.as_mut_ptr(),
+        key.len(),
+        &mut key_len,
+        value.as_mut_ptr(),
+        value.len(),
+        &mut value_len,
+    );
+    if status == ffi::RANGE {
+        return Ok(String::new());
+    }
+    if status != ffi::SHORT {
+        Error::check(status)?;
+        if key[..key_len] == *b"id" {
+            return read(&value[..value_len]);
+        }
+    }
+    let params = params(write)?.into_iter();
+    let mut ids = params.filter(|(key, _)| key == "id");
+    Ok(ids.next().map_or_else(String::new, |(_, value)| value))
 }
 
 /// The text that these bytes are.

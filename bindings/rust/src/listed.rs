@@ -125,7 +125,7 @@ fn value(change: &tk_change, text: &str) -> Change {
         ffi::CHANGE_TEXT => Change::Text(text.into()),
         ffi::CHANGE_TITLE => Change::Title(text.into()),
         ffi::CHANGE_PEN => {
-            let link = (!text.is_empty()).then(|| Hyperlink::new(text));
+            let link = (!text.is_empty()).then(|| Hyperlink::of_text(text, second));
             Change::AllAttributes(Attributes::new(attributes, link))
         }
         ffi::CHANGE_MOVE => Change::CursorPosition {
@@ -176,7 +176,9 @@ fn position(from: usize, place: usize) -> Position {
 fn attribute(change: &tk_change, text: &str) -> AttributeChange {
     let read = Attributes::new(&change.attributes, None);
     match change.kind {
-        ffi::CHANGE_LINK => AttributeChange::Hyperlink(Some(Hyperlink::new(text))),
+        ffi::CHANGE_LINK => {
+            AttributeChange::Hyperlink(Some(Hyperlink::of_text(text, change.second)))
+        }
         ffi::CHANGE_INTENSITY => AttributeChange::Intensity(read.intensity),
         ffi::CHANGE_UNDERLINE => AttributeChange::Underline(read.underline),
         ffi::CHANGE_BLINK => AttributeChange::Blink(read.blink),
@@ -224,6 +226,7 @@ mod tests {
     fn changes_are_read_as_they_were_appended() {
         let color = ColorAttribute::TrueColorWithPaletteFallback(RgbColor::new_8bpc(1, 2, 3), 4);
         let link = Some(Hyperlink::new("uri"));
+        let with_id = Some(Hyperlink::new_with_id("uri", "か"));
         let pen = Attributes {
             underline: Underline::Curly,
             hyperlink: link.clone(),
@@ -233,6 +236,10 @@ mod tests {
             Change::Text("か".into()),
             Change::Title("title".into()),
             Change::AllAttributes(pen),
+            Change::AllAttributes(Attributes {
+                hyperlink: with_id.clone(),
+                ..Attributes::default()
+            }),
             Change::AllAttributes(Attributes::default()),
             Change::ClearScreen(color),
             Change::ClearToEndOfLine(color),
@@ -270,6 +277,7 @@ mod tests {
             AttributeChange::Foreground(color).into(),
             AttributeChange::Background(color).into(),
             AttributeChange::Hyperlink(link).into(),
+            AttributeChange::Hyperlink(with_id).into(),
             AttributeChange::Hyperlink(None).into(),
         ];
         let list: Changes = all.iter().collect();

@@ -4,7 +4,7 @@ use crate::attributes::{Attributes, Hyperlink};
 use crate::change::LineAttribute;
 use crate::error::Error;
 use crate::ffi::{self, tk_attributes, tk_cell, tk_handle, tk_row_cell, tk_row_counts};
-use crate::handle;
+use crate::handle::{self, WriteParam};
 use crate::screen::Screen;
 use std::iter::FusedIterator;
 use std::ops::Range;
@@ -174,43 +174,44 @@ impl<'a> Row<'a> {
         })
     }
 
-    fn link(&self, column: usize) -> Result<Hyperlink, Error> {
+    /// The link of the cell at this column, which has one.
+    pub(crate) fn link(&self, column: usize) -> Result<Hyperlink, Error> {
+        let uri = self.uri(column)?;
+        let id = handle::id(self.write_param(column))?;
+        Ok(Hyperlink::new_with_id(uri, id))
+    }
+
+    fn uri(&self, column: usize) -> Result<String, Error> {
         let handle = self.screen.handle.get();
         // Safety: the handle is live, and the buffer has the room that is named.
-        let uri = handle::text(|uri, room, len| unsafe {
+        handle::text(|uri, room, len| unsafe {
             ffi::tk_link_at(handle, column, self.number, uri, room, len)
-        })?;
-        Ok(Hyperlink::new(uri))
+        })
     }
 
     /// The params of the link that the cell at this column has, each a key and a value, in the
-    /// order of their keys: none where it has no link. A [`Hyperlink`] has its uri alone.
+    /// order of their keys: none where it has no link. A [`Hyperlink`] has of them the `id` alone.
     ///
     /// # Errors
     ///
     /// [`Error::Range`]: the screen has no such row or column. [`Error::Memory`].
     pub fn link_params(&self, column: usize) -> Result<Vec<(String, String)>, Error> {
-        self.link(column)?;
-        let handle = self.screen.handle.get();
-        handle::params(
-            |index, key, key_room, key_len, value, value_room, value_len| {
-                // Safety: the handle is live, and the buffers have the rooms that are named.
-                unsafe {
-                    ffi::tk_link_param_at(
-                        handle,
-                        column,
-                        self.number,
-                        index,
-                        key,
-                        key_room,
-                        key_len,
-                        value,
-                        value_room,
-                        value_len,
-                    )
-                }
-            },
-        )
+        self.uri(column)?;
+        handle::params(self.write_param(column))
+    }
+
+    /// The call that writes a param of the link of the cell at this column.
+    fn write_param(&self, column: usize) -> impl WriteParam + '_ {
+        let (handle, row) = (self.screen.handle.get(), self.number);
+        move |index, key, key_room, key_len, value, value_room, value_len| {
+            // Safety: the handle is live, and the buffers have the rooms that are named.
+            unsafe {
+                ffi::tk_link_param_at(
+                    handle, column, row, index, key, key_room, key_len, value, value_room,
+                    value_len,
+                )
+            }
+        }
     }
 }
 

@@ -6,7 +6,7 @@ use crate::changes::Changes;
 use crate::color::ColorAttribute;
 use crate::error::Error;
 use crate::ffi::{self, tk_settings};
-use crate::handle::{self, Handle};
+use crate::handle::{self, Handle, WriteParam};
 use crate::rows::{Row, Rows};
 use crate::widths::Widths;
 use std::fmt;
@@ -143,27 +143,31 @@ impl Screen {
         // Safety: the handle is live, and the buffer has the room that is named.
         let uri =
             handle::text(|uri, room, len| unsafe { ffi::tk_pen_link(handle, uri, room, len) })?;
-        Ok(Hyperlink::new(uri))
+        let id = handle::id(self.write_pen_param())?;
+        Ok(Hyperlink::new_with_id(uri, id))
     }
 
     /// The params of the pen's link, each a key and a value, in the order of their keys: none where
-    /// it has no link. A [`Hyperlink`] has its uri alone.
+    /// it has no link. A [`Hyperlink`] has of them the `id` alone.
     ///
     /// # Errors
     ///
     /// [`Error::Memory`].
     pub fn pen_link_params(&self) -> Result<Vec<(String, String)>, Error> {
+        handle::params(self.write_pen_param())
+    }
+
+    /// The call that writes a param of the pen's link.
+    fn write_pen_param(&self) -> impl WriteParam + '_ {
         let handle = self.handle.get();
-        handle::params(
-            |index, key, key_room, key_len, value, value_room, value_len| {
-                // Safety: the handle is live, and the buffers have the rooms that are named.
-                unsafe {
-                    ffi::tk_pen_link_param(
-                        handle, index, key, key_room, key_len, value, value_room, value_len,
-                    )
-                }
-            },
-        )
+        move |index, key, key_room, key_len, value, value_room, value_len| {
+            // Safety: the handle is live, and the buffers have the rooms that are named.
+            unsafe {
+                ffi::tk_pen_link_param(
+                    handle, index, key, key_room, key_len, value, value_room, value_len,
+                )
+            }
+        }
     }
 
     /// The number of the coming change. A viewer and a client number the changes that they make by

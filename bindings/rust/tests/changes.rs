@@ -16,7 +16,7 @@ fn heading() -> Attributes {
         underline: Underline::Curly,
         overline: true,
         background: ORANGE,
-        hyperlink: Some(Hyperlink::new("uri:か")),
+        hyperlink: Some(Hyperlink::new_with_id("uri:か", "か7")),
         ..Attributes::default()
     }
 }
@@ -34,7 +34,9 @@ fn all() -> (Changes, Vec<Change>) {
     list.blink(Blink::Rapid).italic(true).reverse(true);
     list.strikethrough(true).invisible(true).text("x");
     list.foreground(GREEN).background(ORANGE).link("uri:c");
-    list.text("linked").no_link().text("\u{1f600}");
+    list.text("linked").link_with_id("uri:c", "か").text("too");
+    list.attribute(&To::Hyperlink(Some(Hyperlink::new_with_id("uri:d", "8"))));
+    list.text("as well").no_link().text("\u{1f600}");
     list.clear_to_end_of_line(GREEN).scroll_up(1, 3, 1);
     list.scroll_down(0, 2, usize::MAX).title("notes か");
     list.cursor_visibility(CursorVisibility::Hidden);
@@ -63,6 +65,10 @@ fn all() -> (Changes, Vec<Change>) {
         To::Background(ORANGE).into(),
         To::Hyperlink(Some(Hyperlink::new("uri:c"))).into(),
         "linked".into(),
+        To::Hyperlink(Some(Hyperlink::new_with_id("uri:c", "か"))).into(),
+        "too".into(),
+        To::Hyperlink(Some(Hyperlink::new_with_id("uri:d", "8"))).into(),
+        "as well".into(),
         To::Hyperlink(None).into(),
         "\u{1f600}".into(),
         Change::ClearToEndOfLine(GREEN),
@@ -238,6 +244,10 @@ fn a_pen_is_set_where_it_may_differ() {
 fn a_pen_that_is_used_is_the_whole_one() {
     let [red, green] = [1, 2].map(ColorAttribute::PaletteIndex);
     let mut pens = vec![Attributes::default(), heading()];
+    pens.push(Attributes {
+        hyperlink: Some(Hyperlink::new_with_id("uri", "7")),
+        ..Attributes::default()
+    });
     for number in 0..16 {
         let chosen = |bit| number & bit != 0;
         pens.push(Attributes {

@@ -150,6 +150,10 @@ fn params_of_links_are_read() {
         let params = [("id", "7"), ("x", &value)].map(|(key, value)| (key.into(), value.into()));
         let screen = client.screen();
         assert_eq!(screen.pen_link_params().unwrap(), params);
+        let link = Some(Hyperlink::new_with_id("u", "7"));
+        assert_eq!(screen.pen().unwrap().hyperlink, link);
+        let cell = screen.row(0).cell(1).unwrap();
+        assert_eq!(cell.attrs().hyperlink, link);
         assert_eq!(screen.row(0).link_params(1).unwrap(), params);
         assert_eq!(screen.row(0).link_params(0).unwrap(), []);
         assert_eq!(screen.row(0).link_params(4), Err(Error::Range));
@@ -157,4 +161,35 @@ fn params_of_links_are_read() {
     }
     let surface = printed(4, 1, "a");
     assert_eq!(surface.pen_link_params().unwrap(), []);
+}
+
+#[test]
+fn the_id_is_found_among_other_params() {
+    for (params, id) in [
+        (&[("id", "7")][..], "7"),
+        (&[("a", "b"), ("id", "7")], "7"),
+        (&[("a", "b"), ("long key", "c"), ("x", "7")], ""),
+        (&[("a long key", ""), ("id", "か"), ("x", "7")], "か"),
+        (&[("id", "")], ""),
+        (&[("ie", "7")], ""),
+        (&[], ""),
+    ] {
+        let mut bytes = vec![0x87, 2, 1, 4, 1, 0, 2, 0x82];
+        bytes.extend([0x82, 0, 0x82, 9, 0x83, 0x61, b'u', 0xf4]);
+        bytes.push(0x80 + params.len() as u8);
+        for (key, value) in params {
+            bytes.push(0x82);
+            for text in [key, value] {
+                bytes.push(0x60 + text.len() as u8);
+                bytes.extend(text.bytes());
+            }
+        }
+        bytes.extend([0x82, 2, 0x61, b'a']);
+        let mut client = Client::new().unwrap();
+        client.feed(&bytes).unwrap();
+        let link = Some(Hyperlink::new_with_id("u", id));
+        assert_eq!(client.pen().unwrap().hyperlink, link);
+        let cell = client.row(0).cell(0).unwrap();
+        assert_eq!(cell.attrs().hyperlink, link);
+    }
 }

@@ -96,6 +96,9 @@ fn attributes() -> Outcome {
     attributes.set_hyperlink(Some(Hyperlink::new(uri)));
     let link = Hyperlink::new(uri);
     assert_eq!(link.uri(), uri);
+    let id = "7";
+    let link = Hyperlink::new_with_id(uri, id);
+    assert_eq!((link.uri(), link.id()), (uri, Some(id)));
     let change = AttributeChange::Hyperlink(None);
     attributes.apply_change(&change);
     let others = attributes.clone_sgr_only();

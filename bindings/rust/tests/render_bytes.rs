@@ -228,6 +228,14 @@ fn links_are_opened_and_closed() {
         first(|it| it.link("a").text("x").no_link().text("y")),
         "\x1b]8;id=e40c292c;a\x1b\\x\x1b]8;;\x1b\\y"
     );
+    assert_eq!(
+        first(|it| it.link_with_id("a", "7").text("x").link("a").text("y")),
+        "\x1b]8;id=7;a\x1b\\x\x1b]8;id=e40c292c;a\x1b\\y"
+    );
+    assert_eq!(
+        first(|it| it.link_with_id("a", "b:c;\x07か").text("x")),
+        "\x1b]8;id=b%3Ac%3B%07%E3%81%8B;a\x1b\\x"
+    );
     let encoded = first(|it| it.link("a b\x1b\\").text("x"));
     assert!(encoded.ends_with(";a%20b%1B\\\x1b\\x"), "{encoded:?}");
 }

@@ -95,8 +95,18 @@ impl Random {
     }
 
     fn link(&mut self) -> Option<Hyperlink> {
-        let uris = ["http://a", "http://か/b;c d", "", "x"];
-        (self.below(4) == 0).then(|| Hyperlink::new(self.one_of(&uris)))
+        let links = [
+            ("http://a", ""),
+            ("http://a", "7"),
+            ("http://か/b;c d", "a:b;か"),
+            ("", ""),
+            ("", "7"),
+            ("x", ""),
+        ];
+        (self.below(4) == 0).then(|| {
+            let (uri, id) = self.one_of(&links);
+            Hyperlink::new_with_id(uri, id)
+        })
     }
 
     fn pen(&mut self) -> Attributes {
@@ -177,19 +187,29 @@ impl Random {
     }
 }
 
-/// The id of a link to this uri.
-fn link(uri: &str) -> Option<(String, String)> {
-    let mut sent = String::new();
-    for byte in uri.bytes() {
-        match byte {
-            b'!'..=b'~' => sent.push(byte.into()),
-            _ => sent += &format!("%{byte:02X}"),
-        }
-    }
-    let id = sent.bytes().fold(0x811c_9dc5, |hash: u32, byte| {
+/// The id and the uri of a link, as they are sent.
+fn sent(link: &Hyperlink) -> Option<(String, String)> {
+    let uri = encoded(link.uri(), "");
+    let hash = uri.bytes().fold(0x811c_9dc5, |hash: u32, byte| {
         (hash ^ u32::from(byte)).wrapping_mul(0x0100_0193)
     });
-    (!sent.is_empty()).then(|| (format!("{id:x}"), sent))
+    let id = match link.id() {
+        Some(id) => encoded(id, ":;"),
+        None => format!("{hash:x}"),
+    };
+    (!uri.is_empty()).then_some((id, uri))
+}
+
+/// A text in printable ASCII, without these characters.
+fn encoded(text: &str, without: &str) -> String {
+    let mut out = String::new();
+    for byte in text.bytes() {
+        match byte {
+            b'!'..=b'~' if !without.contains(char::from(byte)) => out.push(byte.into()),
+            _ => out += &format!("%{byte:02X}"),
+        }
+    }
+    out
 }
 
 fn true_color(color: ColorAttribute) -> ColorAttribute {
@@ -241,7 +261,7 @@ fn shown_row(screen: &Screen, row: usize, width: usize) -> Vec<Glyph> {
                 text = " ".repeat(columns);
             }
         }
-        let link = cell.attrs().hyperlink().and_then(|it| link(it.uri()));
+        let link = cell.attrs().hyperlink().and_then(sent);
         let pen = shown_pen(cell.attrs(), text.chars().all(|it| it == ' '));
         let is_blank = text.chars().all(|it| it == ' ');
         for column in 0..columns {

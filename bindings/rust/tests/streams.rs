@@ -1,8 +1,10 @@
 //! Clients show what surfaces showed, by way of bytes, and viewers without.
 
 use std::thread;
-use tikeburo::{AnswerHead, Ask, Cell, Change, Client, Error, FaultKind, Limits, Options};
-use tikeburo::{Screen, Surface, Taken, Viewer, Widths};
+use tikeburo::{
+    AnswerHead, Ask, AttributeChange, Cell, Change, Client, Error, FaultKind, Hyperlink, Limits,
+    Options, Screen, Surface, Taken, Viewer, Widths,
+};
 
 /// All that is seen of a screen.
 fn seen(screen: &Screen) -> (Vec<Vec<Cell>>, (usize, usize), String) {
@@ -52,6 +54,27 @@ fn a_client_shows_what_the_surface_shows() {
     surface.resize(5, 5).unwrap();
     client.feed(&answer(&mut surface, &client)).unwrap();
     assert_eq!(seen(client.screen()), seen(&surface));
+}
+
+#[test]
+fn links_keep_their_ids() {
+    let (mut surface, mut client) = pair();
+    let mut viewer = Viewer::new(&surface).unwrap();
+    for (uri, id) in [("uri:a", "7"), ("uri:a", ""), ("uri:か", "か")] {
+        let link = Some(Hyperlink::new_with_id(uri, id));
+        let change = AttributeChange::Hyperlink(link.clone());
+        surface.add_change(change).unwrap();
+        surface.add_change("\r\nlinked").unwrap();
+        client.feed(&answer(&mut surface, &client)).unwrap();
+        viewer.follow(&surface).unwrap();
+        for screen in [client.screen(), viewer.screen()] {
+            assert_eq!(seen(screen), seen(&surface));
+            assert_eq!(screen.pen().unwrap().hyperlink, link);
+        }
+        let copy = Surface::copy_of(&surface).unwrap();
+        let cell = copy.row(2).cell(0).unwrap();
+        assert_eq!(cell.attrs().hyperlink, link);
+    }
 }
 
 #[test]

@@ -18,8 +18,8 @@
 //!
 //! What it doesn't know changes nothing, and is [counted](Terminal::unknown_count): images, rows of
 //! double size, the clipboard of `OSC 52`, and each string of `DCS`, `APC`, `PM` or `SOS`, which is
-//! skipped. Of a link of `OSC 8` it keeps the uri, and not the `id` that joins links in several
-//! places. The crate's page has what else it knows, and what xterm does otherwise.
+//! skipped. Of a link of `OSC 8` it keeps the uri and the `id` that joins links in several places,
+//! and no other parameter. The crate's page has what else it knows, and what xterm does otherwise.
 //!
 //! A string of `OSC` has 1,023 bytes at most. A longer title is cut, and a longer link is none.
 //!

@@ -90,7 +90,7 @@ impl Emulator {
             [b"1", title @ ..] => self.set_title(Which::Icon, title, is_whole),
             [b"2", title @ ..] => self.set_title(Which::Window, title, is_whole),
             [b"4", colors @ ..] => return self.change_palette(colors, end),
-            [b"8", _, uri @ ..] => return self.set_link(uri, is_whole),
+            [b"8", params, uri @ ..] => return self.set_link(params, uri, is_whole),
             [b"10", colors @ ..] => return self.change_colors(10, colors, end),
             [b"11", colors @ ..] => return self.change_colors(11, colors, end),
             [b"12", colors @ ..] => return self.change_colors(12, colors, end),
@@ -252,10 +252,15 @@ impl Emulator {
         true
     }
 
-    /// Gives coming texts a link, or none where that is empty or cut.
-    fn set_link(&mut self, words: &[&[u8]], is_whole: bool) -> bool {
+    /// Gives coming texts a link, with the id that the params name, or none where its uri is empty
+    /// or cut.
+    fn set_link(&mut self, params: &[u8], words: &[&[u8]], is_whole: bool) -> bool {
         let uri = text(words);
-        let link = (is_whole && !uri.is_empty()).then(|| Hyperlink::new(uri));
+        let link = (is_whole && !uri.is_empty()).then(|| {
+            let mut params = params.rsplit(|byte| *byte == b':');
+            let id = params.find_map(|param| param.strip_prefix(b"id="));
+            Hyperlink::new_with_id(uri, text(&[id.unwrap_or_default()]))
+        });
         self.cursor.pen.hyperlink = link;
         self.batch.change_pen();
         is_whole

@@ -191,10 +191,20 @@ fn links_are_given_to_texts() {
         [0; 3].map(|_| wanted.clone())
     );
     assert_eq!(link(bytes, 4), None);
-    assert_eq!(
-        link("\x1b]8;id=1:x=y;https://example.org/?a;b\x07y", 0),
-        wanted
-    );
+    for (params, id) in [
+        ("id=1", "1"),
+        ("id=1:x=y", "1"),
+        ("x=id=2:id=か=:y=", "か="),
+        ("id=1:id=2", "2"),
+        ("id=", ""),
+        ("x=y:ID=1:xid=2:id", ""),
+    ] {
+        let bytes = format!("\x1b]8;{params};https://example.org/?a;b\x07y");
+        let wanted = Hyperlink::new_with_id("https://example.org/?a;b", id);
+        assert_eq!(link(&bytes, 0), Some(wanted), "{params}");
+    }
+    let again = "\x1b]8;id=1;u\x07x\x1b]8;;u\x07y";
+    assert_eq!(link(again, 1), Some(Hyperlink::new("u")));
     let linked = |length: usize| {
         let bytes = format!("\x1b]8;;{}\x07x", "u".repeat(length));
         attributes(&fed(SIZE, Widths::Unicode, [bytes.as_bytes()]), 0, 0).hyperlink

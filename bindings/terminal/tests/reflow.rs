@@ -87,7 +87,7 @@ fn what_has_scrolled_off_is_wrapped_too() {
 
 #[test]
 fn cells_keep_what_they_have() {
-    let mut terminal = reflowing("abc\x1b[31m\x1b]8;;uri\x07def\x1b[32mghi\x1b[m\x1b]8;;\x07x");
+    let mut terminal = reflowing("abc\x1b[31m\x1b]8;id=7;uri\x07def\x1b[32mghi\x1b[m\x1b]8;;\x07x");
     assert!(attributes(&terminal, 5, 0).wrapped);
     terminal.resize(12, 3).unwrap();
     assert_eq!(rows(&terminal)[0], "abcdefghix");
@@ -97,7 +97,7 @@ fn cells_keep_what_they_have() {
     let palette = ColorAttribute::PaletteIndex;
     assert_eq!(colors, [palette(1), palette(2), ColorAttribute::Default]);
     let links = [2, 5, 6, 9].map(|x: usize| shown[x].hyperlink.clone());
-    let link = Some(Hyperlink::new("uri"));
+    let link = Some(Hyperlink::new_with_id("uri", "7"));
     assert_eq!(links, [None, link.clone(), link, None]);
 }
 

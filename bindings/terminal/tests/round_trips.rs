@@ -7,7 +7,7 @@ mod support;
 use std::env;
 use support::parts::{part, Random};
 use tikeburo::render::{Options, Renderer};
-use tikeburo::{Attributes, Blink, Surface, Underline};
+use tikeburo::{Attributes, Blink, Hyperlink, Surface, Underline};
 use tikeburo_terminal::Terminal;
 
 const SIZES: [(usize, usize); 8] = [
@@ -26,9 +26,15 @@ const PARTS: usize = 50; // of one terminal
 /// What is seen of a cell: its text, width and attributes.
 type Seen = (String, usize, Attributes);
 
+/// A link as a renderer writes it, which gives an id to one that has none: all are to `uri`.
+fn sent(link: &Hyperlink) -> Hyperlink {
+    Hyperlink::new_with_id(link.uri(), link.id().unwrap_or("378f53fd"))
+}
+
 /// The attributes that are seen: of a blank without lines and swapped colours its background and
 /// its link alone. Whether a row is wrapped isn't seen.
 fn seen_attributes(text: &str, attributes: &Attributes) -> Attributes {
+    let hyperlink = attributes.hyperlink.as_ref().map(sent);
     let is_plain = !attributes.reverse
         && !attributes.strikethrough
         && !attributes.overline
@@ -37,12 +43,13 @@ fn seen_attributes(text: &str, attributes: &Attributes) -> Attributes {
     if text == " " && is_plain {
         return Attributes {
             background: attributes.background,
-            hyperlink: attributes.hyperlink.clone(),
+            hyperlink,
             ..Attributes::default()
         };
     }
     Attributes {
         wrapped: false,
+        hyperlink,
         ..attributes.clone()
     }
 }

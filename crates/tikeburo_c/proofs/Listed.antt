@@ -1,16 +1,12 @@
 -- A loop over a list of changes: what is left of it decides what the whole list is.
 use Rattle.std.proofs.Common.{◌≡◌, ℕ, ◌+◌, ◌<◌, ◌≤◌, ◌==◌, true, false, cond, List, [], ◌∷◌, ◌++◌, length, get_or, drop, Result, Ok, Err, refl, sym, ap, ◌∙◌, append-nil, append_assoc}
 use Rattle.std.proofs.lemmas.List.{drop_all, drop_more, nil_from_length}
-use Rattle.std.proofs.lemmas.Str.{IsUtf8-nil}
-use Rattle.std.specs.Prelude.{IsUtf8, Some}
+use Rattle.std.specs.Prelude.{IsUtf8}
 use Rattle.cbor.specs.Decoding.{◌>>=◌}
 use Rattle.core.proofs.str.Lossy.{IsUtf8-from_is_utf8, is_utf8-from_IsUtf8}
 use Rattle.core.specs.Str.{is_utf8}
-use Rattle.termwiz_cell.specs.Attributes.{Attributes}
 use Rattle.termwiz_cell.specs.ChangeValue.{ChangeValue}
-use Rattle.tikeburo_c.specs.Fields.{attributes_in}
-use Rattle.tikeburo_c.specs.Lists.{first_in, listed_in, pen_in, text_in}
-use Rattle.tikeburo_c.specs.declared.fields.AttributeFields.{AttributeFields}
+use Rattle.tikeburo_c.specs.Lists.{first_in, listed_in, text_in}
 use Rattle.tikeburo_c.specs.declared.failure.Failure.{Failure}
 use Rattle.tikeburo_c.specs.declared.failure.Failure.TheVariants.{Range, Unreadable}
 use Rattle.tikeburo_c.specs.declared.lists.ChangeFields.{ChangeFields}
@@ -25,10 +21,6 @@ no_text bytes bad =
       | true ↦ λ e. absurd (bad (IsUtf8-from_is_utf8 bytes e))
       | false ↦ λ e. refl
     ] refl
-
--- a pen with an empty uri has no link
-pub bare_pen : (f : AttributeFields) (a : Attributes) (uri : List ℕ) → uri ≡ [] → attributes_in f ≡ Some a → pen_in f uri ≡ Ok a
-bare_pen f a uri none e = rw (none, e, is_utf8-from_IsUtf8 [] IsUtf8-nil) refl
 
 abbrev Listed : Type 0
 Listed = Result (List ChangeValue) Failure

@@ -1,5 +1,6 @@
 -- The list that changes are written as is read as these changes.
 use Rattle.std.proofs.Common.{◌≡◌, ℕ, ◌+◌, ◌*◌, ◌/◌, ◌%◌, Bool, false, cond, if◌then◌else◌, List, [], ◌∷◌, ◌++◌, length, take, drop, map, Option, Some, None, Result, Ok, Err, nat_lt, refl, sym, ap, subst, ◌∙◌, append-nil, append_assoc, arith}
+use Rattle.std.proofs.Math.Dec.{eqb-suc-zero}
 use Rattle.std.proofs.lemmas.Bool.{le-ltb}
 use Rattle.std.proofs.lemmas.Int.{to_z-of_z}
 use Rattle.std.proofs.lemmas.List.{drop_at, length-append, map-append, take_at}
@@ -38,7 +39,7 @@ use Rattle.termwiz_cell.specs.declared.color.ColorAttribute.{ColorAttribute}
 use Rattle.termwiz_cell.specs.declared.color.ColorAttribute.TheVariants as color
 use Rattle.tikeburo_c.specs.Cells.{uri_of}
 use Rattle.tikeburo_c.specs.Fields.{attribute_fields, attributes_in, color_fields, color_in, styles_in}
-use Rattle.tikeburo_c.specs.Listing.{IsListOf, IsListable, IsPlace, bare, bare_pen, counted_from, place, struct_of, text_of}
+use Rattle.tikeburo_c.specs.Listing.{IsListOf, IsListable, IsPlace, bare, bare_pen, counted_from, pen_struct, place, struct_of, text_of}
 use Rattle.tikeburo_c.specs.Lists.{change_in, first_in, in_range, kind_in, link_to, listed_in, moved, pen_in, position_in, text_in, text_len, with_link}
 use Rattle.tikeburo_c.specs.Numbers.{align_in, blink_in, intensity_in, line_in, semantic_in, shape_in, underline_in}
 use Rattle.tikeburo_c.specs.declared.failure.Failure.{Failure}
@@ -160,16 +161,21 @@ made_in make o = in_range (option_map make o)
 of_color : (make : ColorAttribute → ChangeValue) (c : ColorAttribute) → made_in make (color_in (color_fields c)) ≡ Ok (make c)
 of_color make c = ap (made_in make) (color_back c)
 
-abbrev penned : Option Attributes → Result (List ℕ) Failure → Result Attributes Failure
-penned o text = in_range o >>= λ a. text >>= λ t. Ok (with_link t a)
-
 abbrev as_pen : Result Attributes Failure → Result ChangeValue Failure
 as_pen r = r >>= λ a. Ok (change.AllAttributes a)
 
-pen_back : (a : Attributes) → IsUtf8 (uri_of a.hyperlink) → pen_in (attribute_fields a) (uri_of a.hyperlink) ≡ Ok (bare_pen a)
-pen_back a u =
-    ap (λ (o : Option Attributes). penned o (text_in (uri_of a.hyperlink))) (attributes_back a)
-    ∙ ap (penned (Some (record a { hyperlink = None }))) (text_back (uri_of a.hyperlink) u)
+abbrev linked_pen : Option Attributes → Result (List ℕ) Failure → Result Attributes Failure
+linked_pen o text = in_range o >>= λ a. (text >>= λ uri. Ok (link_to uri)) >>= λ link. Ok (record a { hyperlink = Some link })
+
+pen_with : (a : Attributes) (uri : List ℕ) → IsUtf8 uri → pen_in (pen_struct a) uri ≡ Ok (with_link uri (record a { hyperlink = None }))
+pen_with a [] u = ap in_range (attributes_back a)
+pen_with a (b ∷ bs) u =
+    rw (eqb-suc-zero (length bs))
+    (ap (λ (o : Option Attributes). linked_pen o (text_in (b ∷ bs))) (attributes_back a)
+    ∙ ap (linked_pen (Some (record a { hyperlink = None }))) (text_back (b ∷ bs) u))
+
+pen_back : (a : Attributes) → IsUtf8 (uri_of a.hyperlink) → pen_in (pen_struct a) (uri_of a.hyperlink) ≡ Ok (bare_pen a)
+pen_back a u = pen_with a (uri_of a.hyperlink) u
 
 rem_back : (x y : Position) → (counted_from x + 4 * counted_from y) % 4 ≡ counted_from x
 rem_back (position.Absolute m) (position.Absolute n) = refl
@@ -206,6 +212,9 @@ move_back x y fx fy =
 abbrev attribute_made : {A : Type 0} → (A → AttributeChangeValue) → Option A → Result ChangeValue Failure
 attribute_made make o = in_range (option_map change.Attribute (option_map make o))
 
+abbrev link_made : Result (List ℕ) Failure → Result ChangeValue Failure
+link_made text = (text >>= λ uri. Ok (link_to uri)) >>= λ link. Ok (change.Attribute (attribute.Hyperlink (Some link)))
+
 attribute_first : (c : AttributeChangeValue) → IsListable (change.Attribute c) → (rest : List ℕ) → first_in (struct_of (change.Attribute c)) (text_of (change.Attribute c) ++ rest) ≡ Ok (bare (change.Attribute c), rest)
 attribute_first (attribute.Intensity v) s rest = first_of (struct_of (change.Attribute (attribute.Intensity v))) kind.Intensity [] rest (change.Attribute (attribute.Intensity v)) refl refl (ap (attribute_made attribute.Intensity) (intensity_back v))
 attribute_first (attribute.Underline v) s rest = first_of (struct_of (change.Attribute (attribute.Underline v))) kind.Underline [] rest (change.Attribute (attribute.Underline v)) refl refl (ap (attribute_made attribute.Underline) (underline_back v))
@@ -216,7 +225,7 @@ attribute_first (attribute.StrikeThrough v) s rest = first_of (struct_of (change
 attribute_first (attribute.Invisible v) s rest = first_of (struct_of (change.Attribute (attribute.Invisible v))) kind.Invisible [] rest (change.Attribute (attribute.Invisible v)) refl refl refl
 attribute_first (attribute.Foreground c) s rest = first_of (struct_of (change.Attribute (attribute.Foreground c))) kind.Foreground [] rest (change.Attribute (attribute.Foreground c)) refl refl (ap (attribute_made attribute.Foreground) (color_back c))
 attribute_first (attribute.Background c) s rest = first_of (struct_of (change.Attribute (attribute.Background c))) kind.Background [] rest (change.Attribute (attribute.Background c)) refl refl (ap (attribute_made attribute.Background) (color_back c))
-attribute_first (attribute.Hyperlink (Some link)) s rest = first_of (struct_of (change.Attribute (attribute.Hyperlink (Some link)))) kind.Link link.uri rest (change.Attribute (attribute.Hyperlink (Some (link_to link.uri)))) refl refl (of_text (λ (t : List ℕ). change.Attribute (attribute.Hyperlink (Some (link_to t)))) link.uri s.utf8)
+attribute_first (attribute.Hyperlink (Some link)) s rest = first_of (struct_of (change.Attribute (attribute.Hyperlink (Some link)))) kind.Link link.uri rest (change.Attribute (attribute.Hyperlink (Some (link_to link.uri)))) refl refl (ap link_made (text_back link.uri s.utf8))
 attribute_first (attribute.Hyperlink None) s rest = first_of (struct_of (change.Attribute (attribute.Hyperlink None))) kind.NoLink [] rest (change.Attribute (attribute.Hyperlink None)) refl refl refl
 
 visible_back : (v : CursorVisibility) → change_in kind.CursorVisibility (struct_of (change.CursorVisibility v)) [] ≡ Ok (change.CursorVisibility v)

@@ -3,7 +3,7 @@ use Rattle.cbor.specs.Decoding.{◌>>=◌}
 use Rattle.core.specs.Str.{is_utf8}
 use Rattle.std.specs.Int.{cast_signed, w64}
 use Rattle.std.specs.Option.{option_map}
-use Rattle.std.specs.Prelude.{ℕ, Bool, true, false, List, [], ◌∷◌, Option, Some, None, Result, Ok, Err, ◌==◌, ◌/◌, ◌%◌, not, nat_lt, length, take, drop, if◌then◌else◌}
+use Rattle.std.specs.Prelude.{ℕ, ◌-◌, Bool, true, false, List, [], ◌∷◌, Option, Some, None, Result, Ok, Err, ◌==◌, ◌&&◌, ◌/◌, ◌%◌, not, nat_lt, length, take, drop, codes, if◌then◌else◌}
 use Rattle.termwiz_cell.specs.AttributeChangeValue as attribute
 use Rattle.termwiz_cell.specs.Attributes.{Attributes}
 use Rattle.termwiz_cell.specs.AttributeChangeValue.{AttributeChangeValue}
@@ -58,7 +58,7 @@ kind_at n =
 abbrev pub kind_in : ℕ → Option Kind
 kind_in = numbered 24 kind_at
 
--- a change of this kind has a text: to print, as the title, or as the uri of a link
+-- a change of this kind has a text: to print, as the title, or as a link
 abbrev pub has_text : Kind → Bool
 has_text kind.Text = true
 has_text kind.Title = true
@@ -79,18 +79,38 @@ in_range None = Err Range
 abbrev pub text_in : List ℕ → Result (List ℕ) Failure
 text_in bytes = if is_utf8 bytes then Ok bytes else Err Unreadable
 
--- a link to this uri
+-- a link to this uri, and one with an id
 abbrev pub link_to : List ℕ → Link
 link_to uri = record { uri = uri; params = []; implicit = false }
+
+abbrev pub link_with_id : List ℕ → List ℕ → Link
+link_with_id uri id = record (link_to uri) { params = (codes "id", id) ∷ [] }
+
+-- the link that a text is, or why it is none: its last n bytes are the id, and the others the uri
+abbrev pub link_in : ℕ → List ℕ → Result Link Failure
+link_in n text =
+    if n == 0 then (text_in text >>= λ uri. Ok (link_to uri))
+    else if nat_lt (length text) n then Err Range
+    else of (take (length text - n) text) (drop (length text - n) text)
+  where
+    of : List ℕ → List ℕ → Result Link Failure
+    of uri id = text_in uri >>= λ u. text_in id >>= λ i. Ok (link_with_id u i)
 
 -- the attributes with a link to this uri, unless it is empty
 abbrev pub with_link : List ℕ → Attributes → Attributes
 with_link [] a = a
 with_link (b ∷ bs) a = record a { hyperlink = Some (link_to (b ∷ bs)) }
 
--- a pen, with a link to this uri unless it is empty, or why there is none
-abbrev pub pen_in : AttributeFields → List ℕ → Result Attributes Failure
-pen_in f uri = in_range (attributes_in f) >>= λ a. text_in uri >>= λ t. Ok (with_link t a)
+-- a pen with the link that its text is, or why there is none
+abbrev pub linked_pen_in : ChangeFields → List ℕ → Result Attributes Failure
+linked_pen_in f text = in_range (attributes_in f.attributes) >>= λ a.
+    link_in f.second text >>= λ link. Ok (record a { hyperlink = Some link })
+
+-- a pen with the link that its text is, or with none where it has neither text nor id
+abbrev pub pen_in : ChangeFields → List ℕ → Result Attributes Failure
+pen_in f text =
+    if length text == 0 && f.second == 0 then in_range (attributes_in f.attributes)
+    else linked_pen_in f text
 
 -- a column or a row: counted from the first one, from the cursor, or from the end
 abbrev pub position_in : ℕ → ℕ → Option Position
@@ -124,8 +144,8 @@ abbrev pub change_in : Kind → ChangeFields → List ℕ → Result ChangeValue
 change_in kind.Text f text = text_in text >>= λ t. Ok (change.Text t)
 change_in kind.Title f text = text_in text >>= λ t. Ok (change.Title t)
 change_in kind.Link f text =
-    text_in text >>= λ t. Ok (change.Attribute (attribute.Hyperlink (Some (link_to t))))
-change_in kind.Pen f text = pen_in f.attributes text >>= λ a. Ok (change.AllAttributes a)
+    link_in f.second text >>= λ link. Ok (change.Attribute (attribute.Hyperlink (Some link)))
+change_in kind.Pen f text = pen_in f text >>= λ a. Ok (change.AllAttributes a)
 change_in kind.Move f text =
     in_range (moved (position_in (f.third % 4) f.first) (position_in (f.third / 4) f.second))
 change_in kind.ClearScreen f text =

@@ -132,32 +132,63 @@ fn link_to(alloc: Global, uri: &str) -> Result<Rc<Hyperlink>, Failure>
     Ok(Rc::new(alloc, Hyperlink::new(alloc, uri))?)
 }
 
-// These attributes with a link to this uri.
-fn linked(alloc: Global, attrs: CellAttributes, uri: &str) -> Result<CellAttributes, Failure>
-    ensures found { IfOk result (λ pen.
-        pen ≡ record attrs { hyperlink = Some (listed.link_to uri.now) }) }
+fn link_with_id(alloc: Global, uri: &str, id: &str) -> Result<Rc<Hyperlink>, Failure>
+    ensures found { IfOk result (λ link. link.value ≡ listed.link_with_id uri.now id.now) }
     ensures missing { IfErr result (λ failure. failure ≡ Memory) }
 {
-    let mut attrs = attrs;
-    attrs.change_hyperlink(alloc, Some(link_to(alloc, uri)?))?;
-    Ok(attrs)
+    let uri = String::from_str(alloc, uri)?;
+    let id = String::from_str(alloc, id)?;
+    Ok(Rc::new(alloc, Hyperlink::new_with_id(alloc, uri, id)?)?)
 }
 
-/// A pen, with a link to this uri unless it is empty.
+// The link that a text is, whose last `id_len` bytes are the id.
+fn link_in(alloc: Global, id_len: usize, text: &[u8]) -> Result<Rc<Hyperlink>, Failure>
+    ensures found { IfOk result (λ link. listed.link_in id_len text.now ≡ Ok link.value) }
+    ensures missing { IfErr result (λ failure. (failure ≡ Memory)
+        ⊎ (listed.link_in id_len text.now ≡ Err failure)) }
+{
+    if id_len == 0 {
+        return link_to(alloc, text_in(text)?);
+    }
+    if text.len() < id_len {
+        return Err(Failure::Range);
+    }
+    let (uri, id) = text.split_at(text.len() - id_len);
+    link_with_id(alloc, text_in(uri)?, text_in(id)?)
+}
+
+// A pen with the link that its text is.
+#[inline(never)]
+fn linked_pen_in(
+    alloc: Global,
+    fields: &ChangeFields,
+    text: &[u8],
+) -> Result<CellAttributes, Failure>
+    ensures found { IfOk result (λ pen. listed.linked_pen_in fields.now text.now ≡ Ok pen) }
+    ensures missing { IfErr result (λ failure. (failure ≡ Memory)
+        ⊎ (listed.linked_pen_in fields.now text.now ≡ Err failure)) }
+{
+    let mut pen = attributes_in(alloc, &fields.attributes)?;
+    let link = link_in(alloc, fields.second, text)?;
+    pen.change_hyperlink(alloc, Some(link))?;
+    Ok(pen)
+}
+
+/// A pen, with the link that its text is where it has one. Most have none, which is seen at once.
+#[inline(always)]
 pub(crate) fn pen_in(
     alloc: Global,
-    fields: &AttributeFields,
-    uri: &[u8],
+    fields: &ChangeFields,
+    text: &[u8],
 ) -> Result<CellAttributes, Failure>
-    ensures found { IfOk result (λ pen. listed.pen_in fields.now uri.now ≡ Ok pen) }
+    ensures found { IfOk result (λ pen. listed.pen_in fields.now text.now ≡ Ok pen) }
     ensures missing { IfErr result (λ failure. (failure ≡ Memory)
-        ⊎ (listed.pen_in fields.now uri.now ≡ Err failure)) }
+        ⊎ (listed.pen_in fields.now text.now ≡ Err failure)) }
 {
-    let pen = attributes_in(alloc, fields)?;
-    if uri.is_empty() {
-        return Ok(pen);
+    if text.is_empty() && fields.second == 0 {
+        return attributes_in(alloc, &fields.attributes);
     }
-    linked(alloc, pen, text_in(uri)?)
+    linked_pen_in(alloc, fields, text)
 }
 
 fn color_of(fields: &ColorFields) -> Result<ColorAttribute, Failure>
@@ -240,10 +271,10 @@ pub(crate) fn change_in(
         Kind::Text => Ok(Change::text_from(alloc, text_in(text)?)?),
         Kind::Title => Ok(Change::Title(String::from_str(alloc, text_in(text)?)?)),
         Kind::Link => {
-            let link = link_to(alloc, text_in(text)?)?;
+            let link = link_in(alloc, f.second, text)?;
             Ok(Change::Attribute(AttributeChange::Hyperlink(Some(link))))
         }
-        Kind::Pen => Ok(Change::AllAttributes(pen_in(alloc, &f.attributes, text)?)),
+        Kind::Pen => Ok(Change::AllAttributes(pen_in(alloc, f, text)?)),
         Kind::Move => Ok(Change::CursorPosition {
             x: position_in(f.third % 4, f.first)?,
             y: position_in(f.third / 4, f.second)?,
@@ -294,7 +325,7 @@ fn push_change(
             changes.push(text)?;
         }
         Kind::Pen => {
-            let pen = pen_in(alloc, &fields.attributes, text)?;
+            let pen = pen_in(alloc, fields, text)?;
             changes.push(Change::AllAttributes(pen))?;
         }
         _ => {

@@ -34,7 +34,7 @@ fn lent_in<'a>(
         Kind::Text => Ok(LentChange::Text(text_in(text)?)),
         Kind::Title => Ok(LentChange::Title(text_in(text)?)),
         Kind::Pen => {
-            let pen = pen_in(alloc, &fields.attributes, text)?;
+            let pen = pen_in(alloc, fields, text)?;
             Ok(LentChange::Owned(Change::AllAttributes(pen)))
         }
         _ => Ok(LentChange::Owned(change_in(alloc, kind, fields, text)?)),

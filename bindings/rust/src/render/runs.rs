@@ -49,14 +49,10 @@ impl Run {
     }
 }
 
-/// The link of the cell at this column, with its id, if it has one.
+/// The link of the cell at this column, which has one, if it is sent.
 fn read_link(row: Row, column: usize) -> Result<Option<Link>, Error> {
-    let cell = row.cell(column)?;
-    let params = row.link_params(column)?;
-    let id = params.iter().find(|(key, _)| key == "id");
-    let id = id.map(|(_, value)| value.as_str());
-    let link = cell.attrs().hyperlink();
-    Ok(link.and_then(|link| Link::new(link.uri(), id)))
+    let link = row.link(column)?;
+    Ok(Link::new(link.uri(), link.id()))
 }
 
 /// The pens of two rows. Cells beside one another mostly have the same, compared once.

@@ -47,7 +47,7 @@ const CONTROLS: [&str; 14] = [
     "\r", "\n", "\r\n", "\x08", "\t", "\x0e", "\x0f", "\x07", "\x0b", "\x18", "\x1a", "\0", "\x7f",
     "\u{85}",
 ];
-const ESCAPES: [&str; 24] = [
+const ESCAPES: [&str; 25] = [
     "\x1b7",
     "\x1b8",
     "\x1bD",
@@ -65,6 +65,7 @@ const ESCAPES: [&str; 24] = [
     "\x1bm",
     "\x1b]2;title\x07",
     "\x1b]8;;uri\x1b\\",
+    "\x1b]8;id=7;uri\x1b\\",
     "\x1b]8;;\x07",
     "\x1b]11;?\x07",
     "\x1bPq text\x1b\\",

@@ -10,6 +10,9 @@ static char text = 't';
 static tk_list_counts counts = {.changes = 7, .texts = 8, .number = 9};
 
 static tk_status draw(tk_handle *handle) { return tk_draw(handle, handle, 1, 0); }
+static tk_status draw_from(tk_handle *handle) {
+    return tk_draw_from(handle, handle, 0, 0, 1, 1, 1, 0);
+}
 static tk_status view(tk_handle *handle) { return tk_viewer_new(handle, handle); }
 static tk_status follow(tk_handle *handle) { return tk_follow(handle, handle); }
 static tk_status push(tk_handle *handle) { return tk_lines_push_row(handle, handle, 0); }
@@ -32,6 +35,7 @@ static const struct {
     const char *name;
     tk_status (*give_twice)(tk_handle *handle);
 } CALLS[] = {{"tk_draw", draw},
+             {"tk_draw_from", draw_from},
              {"tk_viewer_new", view},
              {"tk_follow", follow},
              {"tk_lines_push_row", push},

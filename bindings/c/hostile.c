@@ -434,6 +434,8 @@ static void random_change(tk_handle *surface, tk_handle *source) {
         break;
     case 7:
         EXPECT(tk_draw(surface, source, place(), place()) == TK_DONE);
+        EXPECT(tk_draw_from(surface, source, place(), place(), place(), place(), place(),
+                            place()) == TK_DONE);
         break;
     case 8:
         draw_random_region(surface);

@@ -249,6 +249,56 @@ static void test_links(void) {
     tk_free(&surface);
 }
 
+/* Makes a change of this kind with a link, of whose text so many bytes are the id. */
+static tk_status add_link(tk_handle *surface, uint8_t kind, const char *text, size_t id) {
+    const tk_change change = {.kind = kind, .first = strlen(text), .second = id};
+    return tk_add_changes(surface, &change, 1, text, strlen(text));
+}
+
+/* Whether the pen has a link to this uri, with this id and no other param. */
+static bool pen_links_to(tk_handle *surface, const char *wanted, const char *id) {
+    char uri[8], key[2], value[2];
+    size_t len = 99, other = 99;
+    size_t count = id[0] != '\0';
+    tk_status status = tk_pen_link(surface, uri, sizeof uri, &len);
+    return is(status, uri, len, wanted) && (count == 0 || has_param(surface, NULL, 0, "id", id)) &&
+           tk_pen_link_param(surface, count, key, 2, &len, value, 2, &other) == TK_RANGE;
+}
+
+/* A link's text ends with its id. */
+static void test_link_ids(void) {
+    static const uint8_t kinds[] = {TK_CHANGE_LINK, TK_CHANGE_PEN};
+    for (size_t k = 0; k < COUNT(kinds); k++) {
+        tk_handle surface = made(8, 1);
+        const size_t column = 0;
+        tk_change link = {.kind = kinds[k], .second = 1};
+        CHECK(add_link(&surface, kinds[k], "uri:a7", 1) == TK_DONE);
+        CHECK(pen_links_to(&surface, "uri:a", "7"));
+        CHECK(print(&surface, "x") == TK_DONE && link_is(&surface, 0, 0, "uri:a"));
+        CHECK(has_param(&surface, &column, 0, "id", "7"));
+        CHECK(add_link(&surface, kinds[k], "かa:か", 5) == TK_DONE);
+        CHECK(pen_links_to(&surface, "か", "a:か"));
+        CHECK(add_link(&surface, kinds[k], "id", 2) == TK_DONE);
+        CHECK(pen_links_to(&surface, "", "id"));
+        CHECK(add_link(&surface, kinds[k], "uri", 0) == TK_DONE);
+        CHECK(pen_links_to(&surface, "uri", ""));
+        CHECK(number_is(&surface, 5));
+        CHECK(add_link(&surface, kinds[k], "id", 3) == TK_RANGE);
+        CHECK(add_link(&surface, kinds[k], "id", SIZE_MAX) == TK_RANGE);
+        CHECK(add_link(&surface, kinds[k], "", 1) == TK_RANGE);
+        CHECK(add_link(&surface, kinds[k], "\xff", 2) == TK_RANGE);
+        CHECK(add_link(&surface, kinds[k], "a\xff", 1) == TK_UNREADABLE);
+        CHECK(add_link(&surface, kinds[k], "\xff""a", 1) == TK_UNREADABLE);
+        CHECK(add_link(&surface, kinds[k], "か", 1) == TK_UNREADABLE); /* which is cut */
+        CHECK(tk_add_unlogged(&surface, &link, 1, "", 0) == TK_RANGE);
+        CHECK(number_is(&surface, 5) && pen_links_to(&surface, "uri", ""));
+        link.first = 4;
+        CHECK(tk_add_unlogged(&surface, &link, 1, "uri7", 4) == TK_DONE);
+        CHECK(pen_links_to(&surface, "uri", "7"));
+        tk_free(&surface);
+    }
+}
+
 static void test_clears(void) {
     tk_handle surface = made(4, 2), none = TK_NONE;
     CHECK(print(&surface, "abcdefgh") == TK_DONE);
@@ -300,6 +350,16 @@ static void test_draws(void) {
     CHECK(tk_draw(&screen, &viewer, 5, 1) == TK_DONE); /* cut to what fits */
     CHECK(screen_is(&screen, " ab\n cd  a\n"));
     CHECK(tk_draw(&screen, &widget, SIZE_MAX, SIZE_MAX) == TK_DONE);
+    CHECK(tk_draw_from(&screen, &widget, 1, 1, 1, SIZE_MAX, 5, 0) == TK_DONE); /* one cell */
+    CHECK(screen_is(&screen, " ab  d\n cd  a\n"));
+    CHECK(tk_draw_from(&screen, &widget, 2, 0, 1, 1, 5, 0) == TK_DONE); /* it has no such column */
+    CHECK(tk_draw_from(&screen, &none, 0, 0, 1, 1, 5, 0) == TK_NO_HANDLE);
+    CHECK(tk_draw_from(&screen, &screen, 0, 0, 1, 1, 5, 0) == TK_NO_HANDLE);
+    CHECK(tk_draw_from(&screen, &viewer, 0, 1, 9, 9, 5, 0) == TK_DONE); /* cut to what fits */
+    CHECK(screen_is(&screen, " ab  c\n cd  a\n"));
+    CHECK(print(&widget, "\r\n\r\n  ") == TK_DONE);
+    CHECK(tk_draw_from(&screen, &widget, 0, 0, 1, 1, 5, 0) == TK_DONE);
+    CHECK(screen_is(&screen, " ab\n cd  a\n"));
     CHECK(tk_draw(&viewer, &widget, 0, 0) == TK_WRONG_KIND);
     CHECK(tk_draw(&none, &widget, 0, 0) == TK_NO_HANDLE);
     CHECK(tk_draw(&screen, &none, 0, 0) == TK_NO_HANDLE);
@@ -314,6 +374,33 @@ static void test_draws(void) {
     tk_free(&viewer);
     tk_free(&widget);
     tk_free(&screen);
+}
+
+static bool sgr_is(tk_attributes attributes, const char *wanted) {
+    char text[TK_SGR_ROOM];
+    size_t len = tk_to_sgr(&attributes, text);
+    return len == strlen(wanted) && strcmp(text, wanted) == 0;
+}
+
+static void test_sgr(void) {
+    tk_attributes plain = TK_DEFAULT_ATTRIBUTES, most = TK_DEFAULT_ATTRIBUTES;
+    tk_attributes pen = {.intensity = TK_INTENSITY_BOLD, .background = {.kind = 1, .index = 4}};
+    CHECK(sgr_is(plain, "0"));
+    CHECK(sgr_is(pen, "0;1;48;5;4"));
+    pen.intensity = TK_INTENSITY_HALF;
+    pen.underline = TK_UNDERLINE_DOUBLE;
+    pen.blink = TK_BLINK_RAPID;
+    pen.background.kind = TK_COLOR_DEFAULT;
+    CHECK(sgr_is(pen, "0;2;21;6"));
+    most = (tk_attributes){TK_INTENSITY_BOLD, TK_UNDERLINE_DASHED, TK_BLINK_SLOW, 2, 2, true, true,
+                           true, true, true, true, {2, 255, 254, 100, 0}, {3, 99, 10, 9, 7},
+                           {2, 255, 0, 111, 0}};
+    CHECK(sgr_is(most, "0;1;3;5;7;8;9;53;4:5;38;2;255;254;100;48;2;99;10;9;58:2::255:0:111"));
+    most.foreground.kind = most.background.kind = 4; /* no colours */
+    most.intensity = most.blink = 3;
+    most.underline = 6;
+    most.underline_color = (tk_color){.kind = TK_COLOR_PALETTE, .index = 200};
+    CHECK(sgr_is(most, "0;3;7;8;9;53;58:5:200"));
 }
 
 static void test_reads(void) {
@@ -676,9 +763,11 @@ int main(void) {
     test_pen_ranges();
     test_one_attribute();
     test_links();
+    test_link_ids();
     test_clears();
     test_scrolls();
     test_draws();
+    test_sgr();
     test_reads();
     test_streams();
     test_carried_answers();

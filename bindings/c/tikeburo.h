@@ -374,13 +374,16 @@ typedef struct tk_change {
 enum {
     /* The next `first` bytes of the list's texts: are printed at the cursor with the pen, where CR
      * goes to the first column, LF to the next row, and other control characters of ASCII are
-     * spaces; are the title; or are the uri of the pen's link. */
+     * spaces; are the title; or are the pen's link. The last `second` bytes of a link are its id,
+     * which is its one param, `id`, as OSC 8 has it, and the others its uri. Where `second` is 0 it
+     * has no param. TK_RANGE: `second` is above `first`. */
     TK_CHANGE_TEXT = 0,
     TK_CHANGE_TITLE = 1,
     TK_CHANGE_LINK = 2,
     TK_CHANGE_NO_LINK = 3,
-    /* The pen, the attributes of coming texts, is `attributes`, with a link to the next `first`
-     * bytes of the texts where `first` isn't 0; or the pen has this one of the attributes. */
+    /* The pen, the attributes of coming texts, is `attributes`, with the link that the next `first`
+     * bytes of the texts are, as above, where `first` isn't 0; or the pen has this one of the
+     * attributes. */
     TK_CHANGE_PEN = 4,
     TK_CHANGE_INTENSITY = 5,
     TK_CHANGE_UNDERLINE = 6,
@@ -473,11 +476,12 @@ tk_status tk_diff_screens_distinct(tk_handle *handle, tk_handle *other, tk_chang
 
 /* The changes that turn what the first handle shows into what the other one shows, as
  * tk_get_changes writes changes: each handle has a surface, or a viewer or a client that shows one.
- * They are moves, pens and texts alone, and print each cell that differs once. Made by a surface
- * that shows what the first one shows and has its widths, they give it the other one's rows, in
- * which links have their uris alone. There are none where the rows are equal. Where the sizes
- * differ, what fits in both is compared. Cursor, title, and what else is set beside the rows, are
- * not compared. counts->number is 0. TK_OTHER_WIDTHS. TK_SHORT: as above. */
+ * They are moves, pens and texts alone, and print each cell that differs once. Moves count from
+ * column 0 and row 0, and a move and a whole pen come before the first text. Made by a surface that
+ * shows what the first one shows and has its widths, they give it the other one's rows, in which
+ * links have their uris alone. There are none where the rows are equal. Where the sizes differ,
+ * what fits in both is compared. Cursor, title, and what else is set beside the rows, are not
+ * compared. counts->number is 0. TK_OTHER_WIDTHS. TK_SHORT: as above. */
 static inline tk_status tk_diff_screens(tk_handle *handle, tk_handle *other, tk_change *changes,
                                         size_t change_room, char *texts, size_t room,
                                         tk_list_counts *counts) {
@@ -646,12 +650,23 @@ static inline tk_status tk_set_line_attribute(tk_handle *surface, uint8_t attrib
     return tk_add_numbers(surface, TK_CHANGE_LINE_ATTRIBUTE, attribute, 0, 0);
 }
 
-tk_status tk_draw_distinct(tk_handle *surface, tk_handle *source, size_t column, size_t row);
+tk_status tk_draw_from_distinct(tk_handle *surface, tk_handle *source, size_t column, size_t row,
+                                size_t width, size_t height, size_t to_column, size_t to_row);
 
-/* Draws what the source shows, of any kind, from this column and row on. What doesn't fit
- * is left out. Cursor and pen are as before. It is logged as a list of changes. TK_OTHER_WIDTHS. */
+/* Draws what the region of this column, row, width and height of the source shows, of any kind, at
+ * another column and row. Both are cut to what fits. Cursor and pen are as before. It is logged as
+ * a list of changes. TK_OTHER_WIDTHS. */
+static inline tk_status tk_draw_from(tk_handle *surface, tk_handle *source, size_t column,
+                                     size_t row, size_t width, size_t height, size_t to_column,
+                                     size_t to_row) {
+    if (surface == source)
+        return TK_NO_HANDLE;
+    return tk_draw_from_distinct(surface, source, column, row, width, height, to_column, to_row);
+}
+
+/* Draws all that the source shows, from this column and row on, as tk_draw_from does. */
 static inline tk_status tk_draw(tk_handle *surface, tk_handle *source, size_t column, size_t row) {
-    return surface == source ? TK_NO_HANDLE : tk_draw_distinct(surface, source, column, row);
+    return tk_draw_from(surface, source, 0, 0, SIZE_MAX, SIZE_MAX, column, row);
 }
 
 /* Copies what the region of this column, row, width and height shows to the region of this size at
@@ -873,6 +888,77 @@ tk_status tk_read_ask(const uint8_t *bytes, size_t len, size_t *source, size_t *
 /* Begins a new stream: drops the bytes that make no whole answer yet. The client shows and
  * asks for what it did before. TK_WRONG_KIND. */
 tk_status tk_client_reset(tk_handle *client);
+
+/* ---- Attributes as a terminal takes them ---- */
+
+/* Room for all that tk_to_sgr writes. */
+#define TK_SGR_ROOM 80
+
+static inline size_t tk_put_param(char *text, size_t at, char mark, unsigned number) {
+    text[at++] = mark;
+    if (number >= 100)
+        text[at++] = (char)('0' + number / 100);
+    if (number >= 10)
+        text[at++] = (char)('0' + number / 10 % 10);
+    text[at++] = (char)('0' + number % 10);
+    return at;
+}
+
+static inline size_t tk_put_color(char *text, size_t at, unsigned place, const tk_color *color) {
+    char mark = place == 58 ? ':' : ';'; /* what doesn't know the 58 passes over what it has */
+    if (color->kind < TK_COLOR_PALETTE || color->kind > TK_COLOR_TRUE_OR_PALETTE)
+        return at;
+    at = tk_put_param(text, at, ';', place);
+    if (color->kind == TK_COLOR_PALETTE) {
+        at = tk_put_param(text, at, mark, 5);
+        return tk_put_param(text, at, mark, color->index);
+    }
+    at = tk_put_param(text, at, mark, 2);
+    if (mark == ':')
+        text[at++] = ':'; /* no colour space */
+    at = tk_put_param(text, at, mark, color->red);
+    at = tk_put_param(text, at, mark, color->green);
+    return tk_put_param(text, at, mark, color->blue);
+}
+
+/* Writes the parameters of the escape sequence SGR that sets these attributes, whatever was set
+ * before, as they stand between CSI and `m`, with a zero after them. Returns their length, without
+ * the zero. What a text is to a shell, where it is placed on its line, and numbers that are out of
+ * their range, are left out. */
+static inline size_t tk_to_sgr(const tk_attributes *attributes, char text[TK_SGR_ROOM]) {
+    uint8_t underline = attributes->underline;
+    size_t at = 0;
+    text[at++] = '0';
+    if (attributes->intensity == TK_INTENSITY_BOLD)
+        at = tk_put_param(text, at, ';', 1);
+    if (attributes->intensity == TK_INTENSITY_HALF)
+        at = tk_put_param(text, at, ';', 2);
+    if (attributes->italic)
+        at = tk_put_param(text, at, ';', 3);
+    if (underline == TK_UNDERLINE_SINGLE)
+        at = tk_put_param(text, at, ';', 4);
+    if (underline == TK_UNDERLINE_DOUBLE)
+        at = tk_put_param(text, at, ';', 21);
+    if (attributes->blink == TK_BLINK_SLOW)
+        at = tk_put_param(text, at, ';', 5);
+    if (attributes->blink == TK_BLINK_RAPID)
+        at = tk_put_param(text, at, ';', 6);
+    if (attributes->reverse)
+        at = tk_put_param(text, at, ';', 7);
+    if (attributes->invisible)
+        at = tk_put_param(text, at, ';', 8);
+    if (attributes->strikethrough)
+        at = tk_put_param(text, at, ';', 9);
+    if (attributes->overline)
+        at = tk_put_param(text, at, ';', 53);
+    if (underline >= TK_UNDERLINE_CURLY && underline <= TK_UNDERLINE_DASHED)
+        at = tk_put_param(text, tk_put_param(text, at, ';', 4), ':', underline);
+    at = tk_put_color(text, at, 38, &attributes->foreground);
+    at = tk_put_color(text, at, 48, &attributes->background);
+    at = tk_put_color(text, at, 58, &attributes->underline_color);
+    text[at] = '\0';
+    return at;
+}
 
 #ifdef __cplusplus
 }

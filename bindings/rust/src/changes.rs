@@ -355,7 +355,8 @@ impl Changes {
     }
 
     /// Clears this many columns from the cursor on, and goes after them. All is as after the other
-    /// clears, but they may end anywhere: blanks of this background are printed.
+    /// clears, but they may end anywhere: blanks of this background are printed. Those that the row
+    /// has no room for go on in the next one, since a list doesn't know the surface's width.
     ///
     /// ```
     /// use tikeburo::{Changes, ColorAttribute, Error, Surface};

@@ -325,11 +325,15 @@ extern "C" {
         room: usize,
         counts: *mut tk_list_counts,
     ) -> i32;
-    pub fn tk_draw_distinct(
+    pub fn tk_draw_from_distinct(
         surface: *mut tk_handle,
         source: *mut tk_handle,
         column: usize,
         row: usize,
+        width: usize,
+        height: usize,
+        to_column: usize,
+        to_row: usize,
     ) -> i32;
     pub fn tk_copy(
         surface: *mut tk_handle,

@@ -183,7 +183,9 @@ impl Surface {
     }
 
     /// Makes changes in order, and returns the number of the last, as termwiz counts it: the number
-    /// before, less one unless it is 0, plus how many they are.
+    /// before, less one unless it is 0, plus how many they are. So the changes of the first list are
+    /// counted from 1 on, and later ones by the numbers that they have, which begin with 0: a change
+    /// that is made twice, each time as a list, returns 1 and 1.
     ///
     /// # Errors
     ///
@@ -334,10 +336,48 @@ impl Surface {
         x: usize,
         y: usize,
     ) -> Result<SequenceNo, Error> {
+        self.draw_from(other, 0, 0, usize::MAX, usize::MAX, x, y)
+    }
+
+    /// Draws a part of another surface, a viewer or a client: what its region of this column, row,
+    /// width and height shows, at another column and row. Both are cut to what fits. Cursor and pen
+    /// are as before. Returns the number of the last change that this takes, as
+    /// [`Surface::add_changes`] does.
+    ///
+    /// # Errors
+    ///
+    /// [`Error::OtherWidths`]: the other one measures texts by other [widths](Screen::widths), and
+    /// nothing has changed. [`Error::Numbers`] and [`Error::Memory`], as of
+    /// [`Surface::add_change`].
+    ///
+    /// ```
+    /// use tikeburo::{Error, Surface};
+    ///
+    /// let mut list = Surface::new(6, 4)?;
+    /// list.add_change("one\r\ntwo\r\nthree\r\nfour")?;
+    /// let mut window = Surface::new(8, 3)?;
+    /// window.draw_from(&list, 0, 1, 6, 2, 2, 0)?; // two rows of it, from the second one on
+    /// assert_eq!(window.row(0).text()?, "  two   ");
+    /// assert_eq!(window.row(1).text()?, "  three ");
+    /// assert_eq!(window.cursor_position(), (0, 0));
+    /// # Ok::<(), Error>(())
+    /// ```
+    #[allow(clippy::too_many_arguments)]
+    pub fn draw_from(
+        &mut self,
+        other: &Screen,
+        src_x: usize,
+        src_y: usize,
+        width: usize,
+        height: usize,
+        dest_x: usize,
+        dest_y: usize,
+    ) -> Result<SequenceNo, Error> {
         let number = self.current_seqno();
+        let (handle, source) = (self.handle.get(), other.handle.get());
         // Safety: both handles are live, and they are two, since one is borrowed alone.
         Error::check(unsafe {
-            ffi::tk_draw_distinct(self.handle.get(), other.handle.get(), x, y)
+            ffi::tk_draw_from_distinct(handle, source, src_x, src_y, width, height, dest_x, dest_y)
         })?;
         Ok(self.last_since(number))
     }

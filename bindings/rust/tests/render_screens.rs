@@ -9,7 +9,7 @@ use std::env;
 use std::io::{self, Write};
 use tikeburo::render::{Error, Options, Renderer};
 use tikeburo::{
-    graphemes, text_width, AttributeChange, Attributes, Blink, Changes, ColorAttribute,
+    graphemes, text_width, AttributeChange, Attributes, Blink, Change, Changes, ColorAttribute,
     CursorShape, CursorVisibility, Hyperlink, Intensity, LineAttribute, Position, RgbColor, Screen,
     Surface, Underline, Viewer, Widths,
 };
@@ -459,12 +459,27 @@ fn screens_are_shown_where_characters_are_measured_one_by_one() {
     );
 }
 
+/// A change as a list that is read has it: its links have their uris alone.
+fn without_id(change: Change) -> Change {
+    let bare = |link: Option<Hyperlink>| link.map(|link| Hyperlink::new(link.uri()));
+    match change {
+        Change::AllAttributes(mut pen) => {
+            pen.hyperlink = bare(pen.hyperlink);
+            Change::AllAttributes(pen)
+        }
+        Change::Attribute(AttributeChange::Hyperlink(link)) => {
+            AttributeChange::Hyperlink(bare(link)).into()
+        }
+        change => change,
+    }
+}
+
 #[test]
 fn changes_are_shown() {
     for seed in 0..seeds(30) {
         let mut random = Random::new(seed + 1000);
         let (width, height) = random.one_of(&SIZES);
-        let mut surface = Surface::new(width, height).unwrap();
+        let [mut surface, mut without_ids] = [0; 2].map(|_| Surface::new(width, height).unwrap());
         let mut renderer = Renderer::new(Options::new(width, height));
         let mut followed = Renderer::new(Options::new(width, height));
         let [mut model, mut follower] = [0; 2].map(|_| Model::new(width, height));
@@ -472,6 +487,8 @@ fn changes_are_shown() {
         for step in 0..12 {
             let changes = random.changes(width, height);
             surface.add(&changes).unwrap();
+            let bare = changes.iter().map(without_id).collect();
+            without_ids.add(&bare).unwrap();
             let [mut out, mut other] = [0; 2].map(|_| Vec::new());
             renderer.changes(&mut out, &changes).unwrap();
             model.feed(&out);
@@ -480,7 +497,7 @@ fn changes_are_shown() {
             since = surface.read_changes(since, &mut list).unwrap();
             followed.changes(&mut other, &list).unwrap();
             follower.feed(&other);
-            check(&follower, &surface, &what);
+            check(&follower, &without_ids, &what);
         }
     }
 }

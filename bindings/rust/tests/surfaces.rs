@@ -114,7 +114,10 @@ fn all_attributes_are_read_as_they_were_set() {
         foreground: ColorAttribute::PaletteIndex(200),
         background: ColorAttribute::TrueColorWithDefaultFallback(ORANGE),
         underline_color: ColorAttribute::TrueColorWithPaletteFallback(ORANGE, 9),
-        hyperlink: Some(Hyperlink::new("http://a/".repeat(30))),
+        hyperlink: Some(Hyperlink::new_with_id(
+            "http://a/".repeat(30),
+            "か".repeat(70),
+        )),
     };
     check_attributes(attributes);
 }
@@ -187,7 +190,7 @@ fn each_flag_is_read_as_it_was_set() {
 
 #[test]
 fn one_attribute_is_set_alone() {
-    let link = Hyperlink::new("uri:a");
+    let link = Hyperlink::new_with_id("uri:a", "7");
     let color = ColorAttribute::PaletteIndex(3);
     let wanted = Attributes {
         intensity: Intensity::Bold,
@@ -218,6 +221,43 @@ fn one_attribute_is_set_alone() {
     surface.add_changes(&changes.map(Change::from)).unwrap();
     surface.add_change("x").unwrap();
     assert_eq!(first_attributes(&surface), wanted);
+}
+
+#[test]
+fn a_link_has_an_id_or_none() {
+    for (uri, id) in [
+        ("uri:a", ""),
+        ("uri:a", "7"),
+        ("uri:か", "か"),
+        ("", "id"),
+        ("", ""),
+        ("uri", &"x".repeat(300)),
+    ] {
+        let link = Hyperlink::new_with_id(uri, id);
+        assert_eq!((link.uri(), link.id().unwrap_or_default()), (uri, id));
+        let mut surface = Surface::new(1, 1).unwrap();
+        let change = AttributeChange::Hyperlink(Some(link.clone()));
+        let changes = [change.into(), Change::Text("x".into())];
+        surface.add_changes(&changes).unwrap();
+        assert_eq!(surface.pen().unwrap().hyperlink, Some(link.clone()));
+        assert_eq!(first_attributes(&surface).hyperlink, Some(link.clone()));
+
+        // As changes that are read, it has its uri alone.
+        let (_, changes) = surface.get_changes(1).unwrap();
+        assert_eq!(changes.iter().next(), Some("x".into()));
+        let (_, changes) = surface.get_changes(0).unwrap();
+        let pens = changes.iter().filter_map(|change| match change {
+            Change::AllAttributes(pen) => pen.hyperlink,
+            _ => None,
+        });
+        assert!(pens.into_iter().all(|it| it == Hyperlink::new(uri)));
+    }
+    assert_eq!(Hyperlink::new_with_id("a", ""), Hyperlink::new("a"));
+    assert_ne!(Hyperlink::new_with_id("a", "b"), Hyperlink::new("ab"));
+    assert_eq!(
+        format!("{:?}", Hyperlink::new_with_id("a", "b")),
+        r#"Hyperlink { uri: "a", id: Some("b") }"#
+    );
 }
 
 #[test]
@@ -347,8 +387,15 @@ fn a_surface_is_drawn_and_copied() {
     let widget = printed(2, 2, "abcd");
     screen.draw_from_screen(&widget, 1, 0).unwrap();
     assert_eq!(rows(&screen), [" ab", " cd"]);
+    screen.draw_from(&widget, 1, 1, 9, 9, 4, 0).unwrap();
+    assert_eq!(rows(&screen), [" ab d", " cd"]);
+    assert_eq!(screen.cursor_position(), (0, 0));
+    assert_eq!(
+        screen.draw_from(&widget, 0, 2, 1, 1, 0, 0),
+        Ok(screen.current_seqno() - 1)
+    );
     screen.copy_region(1, 0, 2, 1, 3, 1).unwrap();
-    assert_eq!(rows(&screen), [" ab", " cdab"]);
+    assert_eq!(rows(&screen), [" ab d", " cdab"]);
     assert_eq!(screen.cursor_position(), (5, 1));
     screen.draw_region(1, 1, 1, 1, 4, 0).unwrap();
     assert_eq!(rows(&screen), [" ab c", " cdab"]);

@@ -12,7 +12,7 @@ pub use Rattle.termwiz_screen.specs.FullScreen.{FullScreen, full_replay}
 pub use Rattle.termwiz_screen.specs.Log.{flushed, next_number}
 pub use Rattle.termwiz_surface.specs.Adding.{Adds, with_log}
 pub use Rattle.termwiz_surface.specs.Answer.{is_repaint, suits}
-pub use Rattle.termwiz_surface.specs.Copies.{IsCopied, IsRegionDrawn, IsDrawn, copied_region}
+pub use Rattle.termwiz_surface.specs.Copies.{IsCopied, IsDrawn, copied_region, region_at, whole_at}
 pub use Rattle.termwiz_surface.specs.Unlogged.{AddsUnlogged, lent_value}
 pub use Rattle.termwiz_surface.specs.Diffs.{HasCopied, HasDrawn}
 pub use Rattle.termwiz_surface.specs.Resizing.{Resizes}

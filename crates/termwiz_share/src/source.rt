@@ -2,7 +2,7 @@
 ghost use Rattle.std.specs.Prelude.{◌≡◌, ◌≢◌, ◌+◌, ◌-◌, ◌<◌, ◌≤◌, ◌^◌, ◌∷◌, ◌++◌, [], Err, IfOk};
 ghost use Rattle.std.specs.Prelude.{List, OnErr, OnOk, ℕ, min, vec_len};
 ghost use Rattle.termwiz_share.specs.{Adds, AddsScrolledOff, AddsUnlogged, ClientValue};
-ghost use Rattle.termwiz_share.specs.{HasCopied, HasDrawn, IsCopied, IsDrawn, IsRegionDrawn};
+ghost use Rattle.termwiz_share.specs.{HasCopied, HasDrawn, IsCopied, IsDrawn, region_at};
 ghost use Rattle.termwiz_share.specs.{IsResponse, IsWritten, number_asked};
 ghost use Rattle.termwiz_share.specs.{IsSurfaceSize, PreservesServing};
 ghost use Rattle.termwiz_share.specs.{Resizes, Responds, ScrollRegion, Serves, SourceValue};
@@ -10,7 +10,7 @@ ghost use Rattle.termwiz_share.specs.{blank_surface, flushed, lent_value};
 ghost use Rattle.termwiz_share.specs.{change_value, copied_region, length, map, measure};
 ghost use Rattle.termwiz_share.specs.{next_number, response_bytes};
 ghost use Rattle.termwiz_share.specs.{kept_of, rows_scrolled_off, screen_of, spare_lines, trimmed};
-ghost use Rattle.termwiz_share.specs.{true, with_log};
+ghost use Rattle.termwiz_share.specs.{true, whole_at, with_log};
 
 use crate::responses::Responses;
 use std::alloc::{AllocError, Global};
@@ -206,22 +206,51 @@ impl<W: Widths> Source<W> {
         x: usize,
         y: usize,
     ) -> Result<SequenceNo, SurfaceError>
-        ensures draws { IsDrawn (measure W.width_of) (trimmed self.old.surface) other.now x y
-            result self.new.surface }
+        ensures draws { IsDrawn (measure W.width_of) (trimmed self.old.surface) other.now
+            (whole_at other.now x y) result self.new.surface }
         // All but the rows is as before.
         ensures restores { OnOk result (screen_of self.new.surface
             ≡ record (screen_of self.old.surface) { rows = (screen_of self.new.surface).rows }) }
         // For two surfaces of one width function: the other's rows, where no wide grapheme crosses
         // an edge.
-        ensures region { OnOk result (HasDrawn (measure W.width_of)
-            self.old.surface other.now x y (screen_of self.new.surface)) }
+        ensures region { OnOk result (HasDrawn (measure W.width_of) self.old.surface other.now
+            (whole_at other.now x y) (screen_of self.new.surface)) }
+        ensures no_scroll { result ≡ Err ScrollRegion → ⊥ }
+        // Clients, viewers, numbers and rows hold, even after an error.
+        ensures preserves { PreservesServing (measure W.width_of) self.old self.new }
+    {
+        let (width, height) = other.dimensions();
+        self.draw_from(other, 0, 0, width, height, x, y)
+    }
+
+    /// Draws a part of another surface, as `Surface::draw_from` does.
+    pub fn draw_from(
+        &mut self,
+        other: &Surface<W>,
+        src_x: usize,
+        src_y: usize,
+        width: usize,
+        height: usize,
+        dest_x: usize,
+        dest_y: usize,
+    ) -> Result<SequenceNo, SurfaceError>
+        ensures draws { IsDrawn (measure W.width_of) (trimmed self.old.surface) other.now
+            (region_at dest_x dest_y width height src_x src_y) result self.new.surface }
+        // All but the rows is as before.
+        ensures restores { OnOk result (screen_of self.new.surface
+            ≡ record (screen_of self.old.surface) { rows = (screen_of self.new.surface).rows }) }
+        // For two surfaces of one width function: the other's region, where no wide grapheme
+        // crosses an edge.
+        ensures region { OnOk result (HasDrawn (measure W.width_of) self.old.surface other.now
+            (region_at dest_x dest_y width height src_x src_y) (screen_of self.new.surface)) }
         ensures no_scroll { result ≡ Err ScrollRegion → ⊥ }
         // Clients, viewers, numbers and rows hold, even after an error.
         ensures preserves { PreservesServing (measure W.width_of) self.old self.new }
     {
         self.responses.clear();
         self.surface.forget_unneeded();
-        self.surface.draw_from_screen(other, x, y)
+        self.surface
+            .draw_from(other, src_x, src_y, width, height, dest_x, dest_y)
     }
 
     /// Copies a region within the surface, as `Surface::copy_region` does.
@@ -262,8 +291,9 @@ impl<W: Widths> Source<W> {
         dest_x: usize,
         dest_y: usize,
     ) -> Result<SequenceNo, SurfaceError>
-        ensures draws { IsRegionDrawn (measure W.width_of) (trimmed self.old.surface)
-            src_x src_y width height dest_x dest_y result self.new.surface }
+        ensures draws { IsDrawn (measure W.width_of) (trimmed self.old.surface)
+            (trimmed self.old.surface) (region_at dest_x dest_y width height src_x src_y)
+            result self.new.surface }
         // All but the rows is as before.
         ensures restores { OnOk result (screen_of self.new.surface
             ≡ record (screen_of self.old.surface) { rows = (screen_of self.new.surface).rows }) }

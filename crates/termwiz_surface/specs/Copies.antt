@@ -11,19 +11,26 @@ use Rattle.termwiz_surface.specs.Surface.{SurfaceValue, screen_of}
 use Rattle.termwiz_surface.specs.declared.surface.SurfaceError.{SurfaceError}
 use Rattle.termwiz_surface.specs.declared.surface.SurfaceError.TheVariants.{Memory}
 
--- where the whole of b comes that is drawn on a from column x and row y on
-abbrev pub drawn_region : Screen → Screen → ℕ → ℕ → Region
-drawn_region a b x y =
-    cut (record { x = x; y = y; width = b.width; height = b.height; other_x = 0; other_y = 0 })
-    a.width a.height b.width b.height
+-- w columns and h rows from column x and row y on, and as many of another's from a column and a row
+-- of its own on
+abbrev pub region_at : ℕ → ℕ → ℕ → ℕ → ℕ → ℕ → Region
+region_at x y w h other_x other_y =
+    record { x = x; y = y; width = w; height = h; other_x = other_x; other_y = other_y }
 
 -- the region of a of w columns and h rows that is copied to column x and row y
 abbrev pub copied_region : Screen → ℕ → ℕ → ℕ → ℕ → ℕ → ℕ → Region
 copied_region a from_x from_y w h x y =
-    cut (record { x = x; y = y; width = w; height = h; other_x = from_x; other_y = from_y }) a.width
-    a.height a.width a.height
+    cut (region_at x y w h from_x from_y) a.width a.height a.width a.height
 
 module _ {W : Type 0} where
+  -- the region cut to what fits on both surfaces
+  abbrev pub cut_to : SurfaceValue W → SurfaceValue W → Region → Region
+  cut_to s t r = cut r s.width s.height t.width t.height
+
+  -- the whole of a surface, which comes to column x and row y of another one
+  abbrev pub whole_at : SurfaceValue W → ℕ → ℕ → Region
+  whole_at s x y = region_at x y s.width s.height 0 0
+
   -- the diff that prints what the region of rows b shows and the surface doesn't is made as a list
   -- of changes, once it is finished
   pub record AddsDiff (measure : List ℕ → ℕ) (Same : Type 0) (b : List (List CellValue))
@@ -43,16 +50,14 @@ module _ {W : Type 0} where
     pub refused : result ≡ Err Memory
     pub same : new ≡ old
 
-  -- a surface is drawn from a column and a row on: what it shows there and the old one doesn't is
-  -- printed by the diff of that region, and where anything is, the cursor and the pen are restored
-  -- after it
+  -- a region of another surface is drawn: what it shows and the own one doesn't is printed by the
+  -- diff of that region, and where anything is, the cursor and the pen are restored after it
   abbrev pub IsDrawn :
-      (W → List ℕ → ℕ) → SurfaceValue W → SurfaceValue W → ℕ → ℕ → Result ℕ SurfaceError →
+      (W → List ℕ → ℕ) → SurfaceValue W → SurfaceValue W → Region → Result ℕ SurfaceError →
       SurfaceValue W → Type 0
-  IsDrawn measure_of old other x y result new =
+  IsDrawn measure_of old other r result new =
       AddsDiff (measure_of old.widths) (measure_of old.widths ≡ measure_of other.widths)
-      (screen_of other).rows (drawn_region (screen_of old) (screen_of other) x y)
-      (restoring old.x old.y old.pen) old result new
+      (screen_of other).rows (cut_to old other r) (restoring old.x old.y old.pen) old result new
       ⊎ AddsNothing old result new
 
   -- a region of a surface is copied within it, by the diff of the two regions and nothing after it
@@ -63,15 +68,4 @@ module _ {W : Type 0} where
       AddsDiff (measure_of old.widths) (measure_of old.widths ≡ measure_of old.widths)
       (screen_of old).rows (copied_region (screen_of old) from_x from_y w h x y) (λ l. l) old
       result new
-      ⊎ AddsNothing old result new
-
-  -- a region of a surface is copied within it, and where anything is printed, the cursor and the
-  -- pen are restored after it
-  abbrev pub IsRegionDrawn :
-      (W → List ℕ → ℕ) → SurfaceValue W → ℕ → ℕ → ℕ → ℕ → ℕ → ℕ → Result ℕ SurfaceError →
-      SurfaceValue W → Type 0
-  IsRegionDrawn measure_of old from_x from_y w h x y result new =
-      AddsDiff (measure_of old.widths) (measure_of old.widths ≡ measure_of old.widths)
-      (screen_of old).rows (copied_region (screen_of old) from_x from_y w h x y)
-      (restoring old.x old.y old.pen) old result new
       ⊎ AddsNothing old result new

@@ -3,12 +3,12 @@ use Rattle.std.specs.Prelude.{◌≡◌, ◌⊎◌, ℕ, ◌-◌, ◌<◌, ◌�
 use Rattle.termwiz_cell.specs.CellValue.{CellValue}
 use Rattle.termwiz_cell.specs.ChangeValue.{ChangeValue}
 use Rattle.termwiz_line.specs.Row.{row_of}
-use Rattle.termwiz_screen.specs.Diff.{Region, band, cut, diff, need}
+use Rattle.termwiz_screen.specs.Diff.{Region, band, diff, need}
 use Rattle.termwiz_screen.specs.DiffLists.{IsDiff}
 use Rattle.termwiz_screen.specs.DiffRegions.{CrossNone, HaveRegion}
 use Rattle.termwiz_screen.specs.Screen.{Screen, row_at}
 use Rattle.termwiz_screen.specs.Step.{replay}
-use Rattle.termwiz_surface.specs.Copies.{drawn_region}
+use Rattle.termwiz_surface.specs.Copies.{cut_to}
 use Rattle.termwiz_surface.specs.Surface.{SurfaceValue, screen_of}
 
 module _ {W : Type 0} (measure_of : W → List ℕ → ℕ) where
@@ -20,21 +20,12 @@ module _ {W : Type 0} (measure_of : W → List ℕ → ℕ) where
   abbrev pub screen_after : SurfaceValue W → List ChangeValue → Screen
   screen_after s changes = replay (measure_of s.widths) (screen_of s) changes
 
--- w columns and h rows, own ones from column x and row y on
-abbrev pub region_at : ℕ → ℕ → ℕ → ℕ → ℕ → ℕ → Region
-region_at x y w h other_x other_y =
-    record { x = x; y = y; width = w; height = h; other_x = other_x; other_y = other_y }
-
 -- the rows t show the region of b in the place of a's, unless a wide grapheme crosses an edge
 abbrev pub GivesRegion : List (List CellValue) → Screen → Screen → Region → Type 0
 GivesRegion t a b r =
     CrossNone a.width b.width a.rows b.rows r → HaveRegion a.width t a.rows b.rows r
 
 module _ {W : Type 0} where
-  -- the region cut to what fits on both surfaces
-  abbrev pub cut_to : SurfaceValue W → SurfaceValue W → Region → Region
-  cut_to s t r = cut r s.width s.height t.width t.height
-
   -- the changes are moves, pens and texts; where both measure texts alike they print what the
   -- region of t shows and that of s doesn't
   abbrev pub PrintsRegion :
@@ -77,13 +68,13 @@ HaveRow t a h i row =
     (i < h → row_at t i ≡ row) × ((j : ℕ) → (j < i) ⊎ (i < j) → row_at t j ≡ row_at a j)
 
 module _ {W : Type 0} where
-  -- where both measure texts alike and no wide grapheme crosses an edge, the screen shows the other
-  -- surface drawn there, and elsewhere what the old one showed
-  abbrev pub HasDrawn : (W → List ℕ → ℕ) → SurfaceValue W → SurfaceValue W → ℕ → ℕ → Screen → Type 0
-  HasDrawn measure_of old other x y shown =
+  -- where both measure texts alike and no wide grapheme crosses an edge, the screen shows the
+  -- region of the other surface drawn there, and elsewhere what the old one showed
+  abbrev pub HasDrawn :
+      (W → List ℕ → ℕ) → SurfaceValue W → SurfaceValue W → Region → Screen → Type 0
+  HasDrawn measure_of old other r shown =
       MeasureAlike measure_of old other →
-      GivesRegion shown.rows (screen_of old) (screen_of other)
-      (drawn_region (screen_of old) (screen_of other) x y)
+      GivesRegion shown.rows (screen_of old) (screen_of other) (cut_to old other r)
 
   -- where no wide grapheme crosses an edge of either region, the screen shows the region copied
   -- there, and elsewhere what the old one showed

@@ -63,12 +63,12 @@ pub use Rattle.termwiz_surface.specs.Measuring.{AreMeasured}
 pub use Rattle.termwiz_surface.specs.Scrollback.{spare_lines}
 pub use Rattle.termwiz_surface.specs.ScrolledOff.{AddsScrolledOff, BeginsRows, ScrollsOff, ShownRow, first_rows, left_by, left_one, left_piece, left_region, left_step, line_shown, row_shown, rows_scrolled_off}
 pub use Rattle.termwiz_surface.specs.Resizing.{HasResized, Resizes, resize_touches}
-pub use Rattle.termwiz_surface.specs.Copies.{IsDrawn, IsCopied, IsRegionDrawn, drawn_region, copied_region}
+pub use Rattle.termwiz_surface.specs.Copies.{IsDrawn, IsCopied, copied_region, cut_to, region_at, whole_at}
 pub use Rattle.termwiz_surface.specs.Following.{ViewerValue, Follows, FollowsTo, KeepsViewers, Leads, FullLeads, blank_viewer, blank_viewer_from}
 pub use Rattle.termwiz_surface.specs.History.{Names, IsPast, KeepsNames}
 pub use Rattle.termwiz_surface.specs.Preserving.{Preserves}
 pub use Rattle.termwiz_surface.specs.Asking.{knows, own_repaint, most_own_entries, Repaints, StreamsFrom, StreamsFullyFrom}
-pub use Rattle.termwiz_surface.specs.Diffs.{MeasureAlike, screen_after, HasDrawn, HasCopied, region_at, cut_to, PrintsRegion, GivesRegion, region_diff, rows_of, top_rows, one_row, PrintsRows, HaveTopRows, HaveRow}
+pub use Rattle.termwiz_surface.specs.Diffs.{MeasureAlike, screen_after, HasDrawn, HasCopied, PrintsRegion, GivesRegion, region_diff, rows_of, top_rows, one_row, PrintsRows, HaveTopRows, HaveRow}
 pub use Rattle.termwiz_surface.specs.Answer.{delta_of, AnswerValue, IsGiven, Carries}
 pub use Rattle.termwiz_surface.specs.Carried.{IsPastOf, IsGivenBy, CarriesTo}
 pub use Rattle.termwiz_storage.specs.Clustered.{IsWhole}

@@ -13,7 +13,7 @@ use Rattle.termwiz_screen.specs.ScreenValue.{screen_value}
 use Rattle.termwiz_screen.specs.ShownChars.{shown_chars}
 use Rattle.termwiz_screen.specs.declared.screen.Screen as code
 use Rattle.termwiz_surface.specs.Adding.{Adds, with_log}
-use Rattle.termwiz_surface.specs.Copies.{IsDrawn, IsCopied}
+use Rattle.termwiz_surface.specs.Copies.{IsDrawn, IsCopied, whole_at}
 use Rattle.termwiz_surface.specs.Following.{ViewerValue, Follows, FollowsTo, IsAnswer, blank_viewer}
 use Rattle.termwiz_surface.specs.Resizing.{Resizes}
 use Rattle.termwiz_surface.specs.Surface.{IsSurfaceSize, SurfaceValue, blank_surface, screen_of, lengths_of, full_of}
@@ -54,7 +54,7 @@ module _ {W : Type 0} (measure_of : W → List ℕ → ℕ) where
       (next_number s.log - 1 + vec_len changes) result t)
       outcome
   Acts s (Draw other x y) outcome t =
-      Reports (λ result. IsDrawn measure_of s other x y result t) outcome
+      Reports (λ result. IsDrawn measure_of s other (whole_at other x y) result t) outcome
   Acts s (Copy from_x from_y w h x y) outcome t =
       Reports (λ result. IsCopied measure_of s from_x from_y w h x y result t) outcome
   Acts s (Flush n) Done t = t ≡ with_log s (flushed s.log n)

@@ -1,8 +1,9 @@
 -- How surfaces are drawn on others, and regions copied.
 use Rattle.std.specs.Prelude.{◌≡◌, ℕ, Result, Err, OnOk, Option, Some, None}
+use Rattle.termwiz_screen.specs.Diff.{Region}
 use Rattle.termwiz_share.specs.Serving.{PreservesServing}
 use Rattle.termwiz_share.specs.Source.{SourceValue, trimmed}
-use Rattle.termwiz_surface.specs.{HasCopied, HasDrawn, IsCopied, IsDrawn, IsRegionDrawn, SurfaceValue, copied_region, screen_of}
+use Rattle.termwiz_surface.specs.{HasCopied, HasDrawn, IsCopied, IsDrawn, SurfaceValue, copied_region, region_at, screen_of}
 use Rattle.termwiz_surface.specs.declared.surface.SurfaceError.{SurfaceError}
 use Rattle.termwiz_surface.specs.declared.surface.SurfaceError.TheVariants.{ScrollRegion}
 use Rattle.tikeburo_c.specs.Kept.{shown_of}
@@ -14,36 +15,36 @@ use Rattle.tikeburo_c.specs.declared.failure.Failure.TheVariants.{NoHandle}
 use Rattle.tikeburo_c.specs.declared.kept.Kept.{Kept}
 use Rattle.tikeburo_c.specs.declared.widths.ChosenWidths.{ChosenWidths}
 
--- a surface is drawn on another one as the library draws it
-pub record DrawsAs (source : SurfaceValue ChosenWidths) (x y : ℕ) (old : SourceValue ChosenWidths)
+-- a region of a surface is drawn on another one as the library draws it
+pub record DrawsAs (source : SurfaceValue ChosenWidths) (r : Region) (old : SourceValue ChosenWidths)
     (result : Result ℕ SurfaceError) (new : SourceValue ChosenWidths) : Type 0 where
-  pub drawn : IsDrawn columns_by (trimmed old.surface) source x y result new.surface
+  pub drawn : IsDrawn columns_by (trimmed old.surface) source r result new.surface
   -- all but the rows is as before
   pub restores :
       OnOk result
       (screen_of new.surface ≡
       record (screen_of old.surface) { rows = (screen_of new.surface).rows })
   -- its rows are there, where no wide grapheme crosses an edge
-  pub region : OnOk result (HasDrawn columns_by old.surface source x y (screen_of new.surface))
+  pub region : OnOk result (HasDrawn columns_by old.surface source r (screen_of new.surface))
   pub no_scroll : result ≡ Err ScrollRegion → ⊥
   pub preserves : PreservesServing columns_by old new
 
 abbrev pub Draws :
-    SurfaceValue ChosenWidths → ℕ → ℕ → SourceValue ChosenWidths → Outcome →
+    SurfaceValue ChosenWidths → Region → SourceValue ChosenWidths → Outcome →
     SourceValue ChosenWidths → Type 0
-Draws source x y old outcome new =
+Draws source r old outcome new =
     (result : Result ℕ SurfaceError) × (outcome ≡ outcome_of changing_failure result) ×
-    DrawsAs source x y old result new
+    DrawsAs source r old result new
 
 -- where both measure by the same widths
 abbrev pub DrawsSame :
-    SurfaceValue ChosenWidths → ℕ → ℕ → SourceValue ChosenWidths → Outcome →
+    SurfaceValue ChosenWidths → Region → SourceValue ChosenWidths → Outcome →
     SourceValue ChosenWidths → Type 0
-DrawsSame source x y old = WhereSame source.widths old.surface.widths (Draws source x y) old
+DrawsSame source r old = WhereSame source.widths old.surface.widths (Draws source r) old
 
-abbrev pub DrawsSource : Option Kept → ℕ → ℕ → Option Kept → Outcome → Option Kept → Type 0
-DrawsSource (Some source) x y = OfKind (λ s. OnSurface (DrawsSame s x y)) (shown_of source)
-DrawsSource None x y = Refused NoHandle
+abbrev pub DrawsSource : Option Kept → Region → Option Kept → Outcome → Option Kept → Type 0
+DrawsSource (Some source) r = OfKind (λ s. OnSurface (DrawsSame s r)) (shown_of source)
+DrawsSource None r = Refused NoHandle
 
 -- a region is copied as the library copies it
 pub record CopiesAs (from_x from_y width height x y : ℕ) (old : SourceValue ChosenWidths)
@@ -69,8 +70,8 @@ Copies from_x from_y width height x y old outcome new =
 pub record DrawsRegionAs (from_x from_y width height x y : ℕ) (old : SourceValue ChosenWidths)
     (result : Result ℕ SurfaceError) (new : SourceValue ChosenWidths) : Type 0 where
   pub drawn :
-      IsRegionDrawn columns_by (trimmed old.surface) from_x from_y width height x y result
-      new.surface
+      IsDrawn columns_by (trimmed old.surface) (trimmed old.surface)
+      (region_at x y width height from_x from_y) result new.surface
   -- all but the rows is as before
   pub restores :
       OnOk result

@@ -1,5 +1,7 @@
 //! Surfaces drawn on others, and regions copied within one.
 ghost use Rattle.std.specs.Prelude.{◌≡◌, Some};
+ghost use Rattle.termwiz_screen.specs.{region_value};
+ghost use Rattle.termwiz_surface.specs.{region_at};
 ghost use Rattle.tikeburo_c.specs.Drawing.{Copies, Draws, DrawsRegion, DrawsSame, DrawsSource};
 ghost use Rattle.tikeburo_c.specs.Handles.{kept_of};
 ghost use Rattle.tikeburo_c.specs.Outcomes.{Reports};
@@ -12,31 +14,38 @@ use crate::kept::Kept;
 use crate::same_widths::require_same;
 use crate::widths::ChosenWidths;
 use std::alloc::Global;
+use termwiz_screen::diff::region::Region;
 use termwiz_share::Source;
 use termwiz_surface::Surface;
 
 fn draw_on<'t>(
     surface: &mut Source<ChosenWidths<'t>>,
     source: &Surface<ChosenWidths<'t>>,
-    column: usize,
-    row: usize,
+    region: Region,
 ) -> Result<(), Failure>
-    ensures { Draws source.now column row surface.old result surface.new }
+    ensures { Draws source.now (region_value region) surface.old result surface.new }
 {
-    surface.draw_from_screen(source, column, row)?;
+    let Region {
+        x,
+        y,
+        width,
+        height,
+        other_x,
+        other_y,
+    } = region;
+    surface.draw_from(source, other_x, other_y, width, height, x, y)?;
     Ok(())
 }
 
 fn draw_same<'t>(
     surface: &mut Source<ChosenWidths<'t>>,
     source: &Surface<ChosenWidths<'t>>,
-    column: usize,
-    row: usize,
+    region: Region,
 ) -> Result<(), Failure>
-    ensures { DrawsSame source.now column row surface.old result surface.new }
+    ensures { DrawsSame source.now (region_value region) surface.old result surface.new }
 {
     require_same(&source.widths(), &surface.surface().widths())?;
-    draw_on(surface, source, column, row)
+    draw_on(surface, source, region)
 }
 
 // No closure lends what is shown, since nothing would be known of its call then.
@@ -44,17 +53,16 @@ fn draw_shown(
     alloc: Global,
     handle: &mut Handle,
     shown: &Surface<ChosenWidths<'static>>,
-    column: usize,
-    row: usize,
+    region: Region,
 ) -> Result<(), Failure>
-    ensures { OnSurface (DrawsSame shown.now column row)
+    ensures { OnSurface (DrawsSame shown.now (region_value region))
         (kept_of handle.old) result (kept_of handle.new) }
 {
     let Some(mut kept) = handle.take(alloc) else {
         return Err(Failure::NoHandle);
     };
     let outcome = match &mut *kept {
-        Kept::Surface(surface) => draw_same(surface, shown, column, row),
+        Kept::Surface(surface) => draw_same(surface, shown, region),
         Kept::Viewer(_) | Kept::Client(_) | Kept::Lines(_) => Err(Failure::WrongKind),
     };
     handle.put(alloc, kept);
@@ -65,32 +73,44 @@ fn draw_kept(
     alloc: Global,
     handle: &mut Handle,
     source: &Kept,
-    column: usize,
-    row: usize,
+    region: Region,
 ) -> Result<(), Failure>
-    ensures { DrawsSource (Some source.now) column row
+    ensures { DrawsSource (Some source.now) (region_value region)
         (kept_of handle.old) result (kept_of handle.new) }
 {
     let shown = source.shown()?;
-    draw_shown(alloc, handle, shown, column, row)
+    draw_shown(alloc, handle, shown, region)
 }
 
-/// Draws what the source shows from this column and row on.
+/// Draws what a region of the source shows, cut to what fits in both, at another column and row.
 #[unsafe(no_mangle)]
-pub extern "C" fn tk_draw_distinct(
+pub extern "C" fn tk_draw_from_distinct(
     alloc: Global,
     handle: &mut Handle,
     source: &mut Handle,
     column: usize,
     row: usize,
+    width: usize,
+    height: usize,
+    to_column: usize,
+    to_row: usize,
 ) -> i32
-    ensures draws { Reports result (λ outcome. DrawsSource (kept_of source.old) column row
+    ensures draws { Reports result (λ outcome. DrawsSource (kept_of source.old)
+        (region_at to_column to_row width height column row)
         (kept_of handle.old) outcome (kept_of handle.new)) }
     ensures source { kept_of source.new ≡ kept_of source.old }
 {
+    let region = Region {
+        x: to_column,
+        y: to_row,
+        width,
+        height,
+        other_x: column,
+        other_y: row,
+    };
     let outcome = match source.take(alloc) {
         Some(kept) => {
-            let outcome = draw_kept(alloc, handle, &kept, column, row);
+            let outcome = draw_kept(alloc, handle, &kept, region);
             source.put(alloc, kept);
             outcome
         }

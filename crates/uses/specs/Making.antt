@@ -1,5 +1,6 @@
 -- Changes that callers make on a surface: as one list, or each by itself.
 use Rattle.std.specs.Prelude.{◌≡◌, ◌⊎◌, ℕ, ◌+◌, ◌<◌, ◌^◌, true, List, [], ◌∷◌, ◌++◌, length, Result, Ok, Err}
+use Rattle.termwiz_screen.specs.Diff.{Region}
 use Rattle.termwiz_surface.specs.Adding.{Refuses}
 use Rattle.termwiz_surface.specs.{Adds, ChangeValue, FullScreen, IsDrawn, Makes, SurfaceValue, appended, full_of, full_replay, next_number, regions_fit}
 use Rattle.termwiz_surface.specs.declared.surface.SurfaceError.{SurfaceError}
@@ -56,9 +57,9 @@ module _ {W : Type 0} (measure_of : W → List ℕ → ℕ) where
       HasMade old changes new × (new.log ≡ appended old.log changes)
   AddsEach old changes (Err error) new = StopsBefore old changes error new
 
-  -- another surface is drawn on one, or that fails, as its own call says
+  -- a region of another surface is drawn on one, or that fails, as its own call says
   abbrev pub Draws :
-      SurfaceValue W → SurfaceValue W → ℕ → ℕ → Result (Unit {0}) SurfaceError → SurfaceValue W →
+      SurfaceValue W → SurfaceValue W → Region → Result (Unit {0}) SurfaceError → SurfaceValue W →
       Type 0
-  Draws old other x y (Ok u) new = (n : ℕ) × IsDrawn measure_of old other x y (Ok n) new
-  Draws old other x y (Err e) new = IsDrawn measure_of old other x y (Err e) new
+  Draws old other r (Ok u) new = (n : ℕ) × IsDrawn measure_of old other r (Ok n) new
+  Draws old other r (Err e) new = IsDrawn measure_of old other r (Err e) new

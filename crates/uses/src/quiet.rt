@@ -1,8 +1,8 @@
 //! A terminal that nobody follows: what a program writes is shown and not logged, a heading is
 //! shown twice, and what a program may leave changed is set as it was.
 ghost use Rattle.std.specs.Prelude.{◌≡◌, ◌+◌, ◌-◌, Err, IfOk, OnOk};
-ghost use Rattle.uses.specs.{AddsUnlogged, IsRegionDrawn, ScrollRegion, measure, next_number};
-ghost use Rattle.uses.specs.{output_changes, passed, screen_after, screen_of};
+ghost use Rattle.uses.specs.{AddsUnlogged, IsDrawn, ScrollRegion, measure, next_number};
+ghost use Rattle.uses.specs.{output_changes, passed, region_at, screen_after, screen_of};
 ghost use Rattle.uses.specs.{settings_changes};
 
 use std::alloc::AllocError;
@@ -46,8 +46,8 @@ pub fn repeat_columns<W: Widths>(
     other: usize,
 ) -> Result<SequenceNo, SurfaceError>
     // They are drawn, or the surface is what the error leaves.
-    ensures drawn { IsRegionDrawn (measure W.width_of)
-        surface.old x row width 1 x other result surface.new }
+    ensures drawn { IsDrawn (measure W.width_of) surface.old surface.old
+        (region_at x other width 1 x row) result surface.new }
     // All parts of the screen but the rows are unchanged.
     ensures restores { OnOk result (screen_of surface.new
         ≡ record (screen_of surface.old) { rows = (screen_of surface.new).rows }) }

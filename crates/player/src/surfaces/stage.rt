@@ -110,7 +110,7 @@ impl Stage {
                 }
             }
             "repeat" | "resize" | "flush" => self.change_own(turn, name),
-            "draw" | "copy" | "draw-region" => self.draw(turn, name),
+            "draw" | "draw-from" | "copy" | "draw-region" => self.draw(turn, name),
             "lead" => self.lead(turn),
             "follow" => self.follow(turn),
             "goto" | "place" => {
@@ -354,6 +354,11 @@ impl Stage {
             let Some(from) = self.other(turn) else { return };
             let (x, y) = turn.pair();
             next.draw_from_screen(from, x, y)
+        } else if name == "draw-from" {
+            let Some(from) = self.other(turn) else { return };
+            let ((x, y), (width, height)) = (turn.pair(), turn.pair());
+            let (to_x, to_y) = turn.pair();
+            next.draw_from(from, x, y, width, height, to_x, to_y)
         } else {
             let ((x, y), (width, height)) = (turn.pair(), turn.pair());
             let (to_x, to_y) = turn.pair();

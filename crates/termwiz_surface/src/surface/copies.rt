@@ -2,8 +2,8 @@
 ghost use Rattle.std.specs.Prelude.{◌≡◌, Err, IfOk, OnOk, map};
 ghost use Rattle.termwiz_surface.specs.{HasCopied, HasDrawn, IsCopied, IsDrawn, Preserves};
 ghost use Rattle.termwiz_surface.specs.{ScrollRegion, change_value};
-ghost use Rattle.termwiz_surface.specs.{IsRegionDrawn, copied_region, measure, restoring};
-ghost use Rattle.termwiz_surface.specs.{screen_of};
+ghost use Rattle.termwiz_surface.specs.{copied_region, measure, region_at, restoring, screen_of};
+ghost use Rattle.termwiz_surface.specs.{whole_at};
 
 use super::{Surface, SurfaceError};
 use std::alloc::AllocError;
@@ -33,20 +33,63 @@ impl<W: Widths> Surface<W> {
         x: usize,
         y: usize,
     ) -> Result<SequenceNo, SurfaceError>
-        ensures drawn { IsDrawn (measure W.width_of) self.old other.now x y result self.new }
+        ensures drawn { IsDrawn (measure W.width_of) self.old other.now (whole_at other.now x y)
+            result self.new }
         // All parts of the screen but the rows are unchanged.
         ensures restores { OnOk result (
             screen_of self.new ≡ record (screen_of self.old) { rows = (screen_of self.new).rows }) }
         // For two surfaces of one width function: the region shows the other's, where no wide
         // grapheme crosses an edge.
-        ensures region { OnOk result (
-            HasDrawn (measure W.width_of) self.old other.now x y (screen_of self.new)) }
+        ensures region { OnOk result (HasDrawn (measure W.width_of)
+            self.old other.now (whole_at other.now x y) (screen_of self.new)) }
         ensures no_scroll { result ≡ Err ScrollRegion → ⊥ }
         // Viewers, numbers and rows hold, even after an error.
         ensures preserves { Preserves (measure W.width_of) self.old self.new }
     {
         let (width, height) = other.dimensions();
-        let printed = self.diff_region(x, y, width, height, other, 0, 0)?;
+        self.draw_from(other, 0, 0, width, height, x, y)
+    }
+
+    /// Draws a part of another surface on this one: what the other one's region of `width` columns
+    /// and `height` rows from column `src_x` and row `src_y` on shows, from column `dest_x` and row
+    /// `dest_y` of this one on, numbered from 0.
+    ///
+    /// - The region is cut to what fits in both. Where it begins outside of one, nothing is drawn.
+    /// - Cells that this surface shows there already are not printed again.
+    /// - Cursor and pen are as before, a pending wrap too: where anything is printed, the last two
+    ///   changes restore them.
+    ///
+    /// Where both surfaces measure texts alike and no wide grapheme of either crosses an edge of
+    /// its region, this region then shows what the other surface's does, and nothing else changes.
+    /// A wide grapheme that crosses an edge is printed whole.
+    ///
+    /// The changes are applied and logged as one list, and the result is that of `add_changes`.
+    /// `Numbers`: the surface is unchanged. `Memory`: the surface is unchanged, or as after that
+    /// error of `add_changes`. It never fails with `ScrollRegion`.
+    pub fn draw_from(
+        &mut self,
+        other: &Surface<W>,
+        src_x: usize,
+        src_y: usize,
+        width: usize,
+        height: usize,
+        dest_x: usize,
+        dest_y: usize,
+    ) -> Result<SequenceNo, SurfaceError>
+        ensures drawn { IsDrawn (measure W.width_of) self.old other.now
+            (region_at dest_x dest_y width height src_x src_y) result self.new }
+        // All parts of the screen but the rows are unchanged.
+        ensures restores { OnOk result (
+            screen_of self.new ≡ record (screen_of self.old) { rows = (screen_of self.new).rows }) }
+        // For two surfaces of one width function: the region shows the other's, where no wide
+        // grapheme crosses an edge.
+        ensures region { OnOk result (HasDrawn (measure W.width_of) self.old other.now
+            (region_at dest_x dest_y width height src_x src_y) (screen_of self.new)) }
+        ensures no_scroll { result ≡ Err ScrollRegion → ⊥ }
+        // Viewers, numbers and rows hold, even after an error.
+        ensures preserves { Preserves (measure W.width_of) self.old self.new }
+    {
+        let printed = self.diff_region(dest_x, dest_y, width, height, other, src_x, src_y)?;
         let changes = restored(printed, (self.x, self.y), &self.pen)?;
         self.add_own_changes(CowSlice::Owned(changes))
     }
@@ -104,8 +147,8 @@ impl<W: Widths> Surface<W> {
         dest_x: usize,
         dest_y: usize,
     ) -> Result<SequenceNo, SurfaceError>
-        ensures drawn { IsRegionDrawn (measure W.width_of)
-            self.old src_x src_y width height dest_x dest_y result self.new }
+        ensures drawn { IsDrawn (measure W.width_of) self.old self.old
+            (region_at dest_x dest_y width height src_x src_y) result self.new }
         // All parts of the screen but the rows are unchanged.
         ensures restores { OnOk result (
             screen_of self.new ≡ record (screen_of self.old) { rows = (screen_of self.new).rows }) }

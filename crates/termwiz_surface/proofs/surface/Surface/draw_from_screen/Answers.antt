@@ -1,53 +1,11 @@
-use Rattle.std.proofs.Common.{◌≡◌, inl, map, refl, subst}
-use Rattle.termwiz_cell.specs.ChangeValue.{change_value}
-use Rattle.termwiz_cell.specs.Measure.{measure}
-use Rattle.termwiz_surface.specs.Copies.{drawn_region}
-use Rattle.termwiz_screen.specs.DiffRegions.{CrossNone, HaveRegion}
-use Rattle.termwiz_screen.specs.Screen.{Screen}
-use Rattle.termwiz_surface.specs.Surface.{SurfaceValue, IsSound, screen_of}
-use Rattle.termwiz_surface.proofs.Copying.{Adds-restored, drawn_screen, drawn_no_scroll}
 use Rattle.termwiz_surface.proofs.surface.Surface.draw_from_screen.Goals as goal
 
--- no step is named after the call that adds the list, so that a body which goes on there is refused
--- by a clause
 pub returns-clause-drawn : goal.returns-clause-drawn
 returns-clause-drawn g c =
-    let f = measure g.W.Widths.width_of c.args.self.now.widths in
-    let changes = map change_value c.in_ok-printed.printed.items in
     let size = c.dimensions-width.ensures in
-    inl (record {
-      changes = changes;
-      entries = rw (size.width, size.height) at c.in_ok-printed.ensures.entries;
-      is_diff = rw (size.width, size.height) at c.in_ok-printed.ensures.diff;
-      done = Adds-restored f c.args.self.now c.add_own_changes.new.self _ (map change_value c.in_ok-changes.changes.items) changes c.add_own_changes.result c.self.view_is c.in_ok-changes.ensures c.add_own_changes.ensures.adds;
-    })
-
-pub returns-clause-restores : goal.returns-clause-restores
-returns-clause-restores g c =
-    let f = measure g.W.Widths.width_of c.args.self.now.widths in
-    let changes = map change_value c.in_ok-printed.printed.items in
-    let adds = Adds-restored f c.args.self.now c.add_own_changes.new.self _ (map change_value c.in_ok-changes.changes.items) changes c.add_own_changes.result c.self.view_is c.in_ok-changes.ensures c.add_own_changes.ensures.adds in
-    let sound = subst (λ (v : SurfaceValue _). IsSound (measure g.W.Widths.width_of v.widths) v) c.self.view_is c.self.invariant.0 in
-    drawn_screen f c.args.self.now c.add_own_changes.new.self c.add_own_changes.result _ changes c.in_ok-printed.ensures.diff.drawing sound adds
-    (λ (s : Screen). s ≡ record (screen_of c.args.self.now) { rows = s.rows }) refl
+    rw (size.width, size.height) at c.draw_from.ensures.drawn
 
 pub returns-clause-region : goal.returns-clause-region
 returns-clause-region g c =
-    let f = measure g.W.Widths.width_of c.args.self.now.widths in
-    let changes = map change_value c.in_ok-printed.printed.items in
-    let adds = Adds-restored f c.args.self.now c.add_own_changes.new.self _ (map change_value c.in_ok-changes.changes.items) changes c.add_own_changes.result c.self.view_is c.in_ok-changes.ensures c.add_own_changes.ensures.adds in
-    let sound = subst (λ (v : SurfaceValue _). IsSound (measure g.W.Widths.width_of v.widths) v) c.self.view_is c.self.invariant.0 in
-    let a = screen_of c.args.self.now in
-    let b = screen_of c.args.other.now in
-    let r = drawn_region a b c.args.x c.args.y in
     let size = c.dimensions-width.ensures in
-    drawn_screen f c.args.self.now c.add_own_changes.new.self c.add_own_changes.result _ changes c.in_ok-printed.ensures.diff.drawing sound adds
-    (λ (s : Screen). f ≡ measure g.W.Widths.width_of c.args.other.now.widths → CrossNone a.width b.width a.rows b.rows r → HaveRegion a.width s.rows a.rows b.rows r)
-    (rw (size.width, size.height) at c.in_ok-printed.ensures.region)
-
-pub returns-clause-no_scroll : goal.returns-clause-no_scroll
-returns-clause-no_scroll g c =
-    let f = measure g.W.Widths.width_of c.args.self.now.widths in
-    let changes = map change_value c.in_ok-printed.printed.items in
-    let adds = Adds-restored f c.args.self.now c.add_own_changes.new.self _ (map change_value c.in_ok-changes.changes.items) changes c.add_own_changes.result c.self.view_is c.in_ok-changes.ensures c.add_own_changes.ensures.adds in
-    drawn_no_scroll f c.args.self.now c.add_own_changes.new.self c.add_own_changes.result _ changes c.in_ok-printed.ensures.diff.drawing adds
+    rw (size.width, size.height) at c.draw_from.ensures.region

@@ -4,7 +4,7 @@ use Rattle.termwiz_cell.specs.ChangeValue.{change_value}
 use Rattle.termwiz_cell.specs.Measure.{measure}
 use Rattle.termwiz_screen.specs.Log.{next_number}
 use Rattle.termwiz_surface.specs.Adding.{Adds}
-use Rattle.termwiz_surface.specs.Copies.{IsDrawn, IsCopied}
+use Rattle.termwiz_surface.specs.Copies.{IsDrawn, IsCopied, whole_at}
 use Rattle.termwiz_surface.proofs.Running.{Reports-answer}
 use Rattle.termwiz_surface.proofs.view.serving.act.Goals as goal
 
@@ -19,7 +19,7 @@ pub returns-in-Draw-clause-step : goal.returns-in-Draw-clause-step
 returns-in-Draw-clause-step g c =
     let at = c.in-Draw in
     rw c.in-Draw.is
-    (Reports-answer (λ result. IsDrawn (measure g.W.Widths.width_of) c.args.surface.now at.other at.x at.y result c.draw_from_screen.new.self) c.draw_from_screen.result c.answered-in-Draw.result c.answered-in-Draw.ensures c.draw_from_screen.ensures.drawn)
+    (Reports-answer (λ result. IsDrawn (measure g.W.Widths.width_of) c.args.surface.now at.other (whole_at at.other at.x at.y) result c.draw_from_screen.new.self) c.draw_from_screen.result c.answered-in-Draw.result c.answered-in-Draw.ensures c.draw_from_screen.ensures.drawn)
 
 pub returns-in-Copy-clause-step : goal.returns-in-Copy-clause-step
 returns-in-Copy-clause-step g c =

@@ -249,7 +249,7 @@ static void test_links(void) {
     tk_free(&surface);
 }
 
-/* Makes a change of this kind with a link, of whose text so many bytes are the id. */
+/* Makes a change of this kind with a link, whose text ends with an id of this length. */
 static tk_status add_link(tk_handle *surface, uint8_t kind, const char *text, size_t id) {
     const tk_change change = {.kind = kind, .first = strlen(text), .second = id};
     return tk_add_changes(surface, &change, 1, text, strlen(text));

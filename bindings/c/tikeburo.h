@@ -894,6 +894,7 @@ tk_status tk_client_reset(tk_handle *client);
 /* Room for all that tk_to_sgr writes. */
 #define TK_SGR_ROOM 80
 
+/* Two parts of tk_to_sgr: each writes at a place of the text, and returns the place after that. */
 static inline size_t tk_put_param(char *text, size_t at, char mark, unsigned number) {
     text[at++] = mark;
     if (number >= 100)
@@ -927,30 +928,27 @@ static inline size_t tk_put_color(char *text, size_t at, unsigned place, const t
  * their range, are left out. */
 static inline size_t tk_to_sgr(const tk_attributes *attributes, char text[TK_SGR_ROOM]) {
     uint8_t underline = attributes->underline;
+    const struct {
+        bool is_on;
+        uint8_t param;
+    } flags[] = {
+        { attributes->intensity == TK_INTENSITY_BOLD, 1 },
+        { attributes->intensity == TK_INTENSITY_HALF, 2 },
+        { attributes->italic, 3 },
+        { underline == TK_UNDERLINE_SINGLE, 4 },
+        { underline == TK_UNDERLINE_DOUBLE, 21 },
+        { attributes->blink == TK_BLINK_SLOW, 5 },
+        { attributes->blink == TK_BLINK_RAPID, 6 },
+        { attributes->reverse, 7 },
+        { attributes->invisible, 8 },
+        { attributes->strikethrough, 9 },
+        { attributes->overline, 53 },
+    };
     size_t at = 0;
     text[at++] = '0';
-    if (attributes->intensity == TK_INTENSITY_BOLD)
-        at = tk_put_param(text, at, ';', 1);
-    if (attributes->intensity == TK_INTENSITY_HALF)
-        at = tk_put_param(text, at, ';', 2);
-    if (attributes->italic)
-        at = tk_put_param(text, at, ';', 3);
-    if (underline == TK_UNDERLINE_SINGLE)
-        at = tk_put_param(text, at, ';', 4);
-    if (underline == TK_UNDERLINE_DOUBLE)
-        at = tk_put_param(text, at, ';', 21);
-    if (attributes->blink == TK_BLINK_SLOW)
-        at = tk_put_param(text, at, ';', 5);
-    if (attributes->blink == TK_BLINK_RAPID)
-        at = tk_put_param(text, at, ';', 6);
-    if (attributes->reverse)
-        at = tk_put_param(text, at, ';', 7);
-    if (attributes->invisible)
-        at = tk_put_param(text, at, ';', 8);
-    if (attributes->strikethrough)
-        at = tk_put_param(text, at, ';', 9);
-    if (attributes->overline)
-        at = tk_put_param(text, at, ';', 53);
+    for (size_t i = 0; i < sizeof flags / sizeof *flags; i++)
+        if (flags[i].is_on)
+            at = tk_put_param(text, at, ';', flags[i].param);
     if (underline >= TK_UNDERLINE_CURLY && underline <= TK_UNDERLINE_DASHED)
         at = tk_put_param(text, tk_put_param(text, at, ';', 4), ':', underline);
     at = tk_put_color(text, at, 38, &attributes->foreground);

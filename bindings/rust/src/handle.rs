@@ -107,21 +107,34 @@ impl<F> WriteParam for F where
 {
 }
 
+/// Makes the call for the param at this index. Returns its status, and the lengths of the key and
+/// of the value.
+fn write_param(
+    write: &mut impl WriteParam,
+    index: usize,
+    key: &mut [u8],
+    value: &mut [u8],
+) -> (i32, usize, usize) {
+    let (mut key_len, mut value_len) = (0, 0);
+    let status = write(
+        index,
+        key.as_mut_ptr(),
+        key.len(),
+        &mut key_len,
+        value.as_mut_ptr(),
+        value.len(),
+        &mut value_len,
+    );
+    (status, key_len, value_len)
+}
+
 /// The params that this call writes.
 pub(crate) fn params(mut write: impl WriteParam) -> Result<Vec<(String, String)>, Error> {
     let mut params = Vec::new();
     let (mut key, mut value) = (vec![0; 32], vec![0; 128]);
     loop {
-        let (mut key_len, mut value_len) = (0, 0);
-        let status = write(
-            params.len(),
-            key.as_mut_ptr(),
-            key.len(),
-            &mut key_len,
-            value.as_mut_ptr(),
-            value.len(),
-            &mut value_len,
-        );
+        let (status, key_len, value_len) =
+            write_param(&mut write, params.len(), &mut key, &mut value);
         match status {
             ffi::RANGE => return Ok(params),
             ffi::SHORT => {
@@ -140,16 +153,7 @@ pub(crate) fn params(mut write: impl WriteParam) -> Result<Vec<(String, String)>
 /// has no other param, and then the call is made once.
 pub(crate) fn id(mut write: impl WriteParam) -> Result<String, Error> {
     let (mut key, mut value) = ([0; 2], [0; 128]);
-    let (mut key_len, mut value_len) = (0, 0);
-    let status = write(
-        0,
-        key.as_mut_ptr(),
-        key.len(),
-        &mut key_len,
-        value.as_mut_ptr(),
-        value.len(),
-        &mut value_len,
-    );
+    let (status, key_len, value_len) = write_param(&mut write, 0, &mut key, &mut value);
     if status == ffi::RANGE {
         return Ok(String::new());
     }

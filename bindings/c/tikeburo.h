@@ -359,9 +359,9 @@ tk_status tk_first_grapheme(const char *text, size_t len, size_t *bytes);
  *
  * Each call takes a surface. Each change is logged with a number, one above the one before. What no
  * answer can need is forgotten by itself, also where a change is refused. TK_WRONG_KIND: the handle
- * has another kind. TK_NUMBERS: there are too few numbers left. TK_MEMORY: either there was none for
- * the changes themselves, and nothing has changed, or the surface may show anything in its size,
- * and its log is empty. */
+ * has another kind. TK_NUMBERS: there are too few numbers left. TK_MEMORY: either there was none
+ * for the changes themselves, and nothing has changed, or the surface may show anything in its
+ * size, and its log is empty. */
 
 /* A change. Its kind says what of it is read. */
 typedef struct tk_change {
@@ -439,19 +439,58 @@ enum {
     TK_LINE_SINGLE_WIDTH = 3
 };
 
-/* Makes a list of changes in order, whose texts stand behind one another in `texts`. A list that
- * has a fault changes nothing, and its first fault is returned. TK_RANGE: a change's kind or
- * another of its numbers is out of its range, its text goes past the end of the texts, or bytes of
- * these are left after the last change. TK_UNREADABLE: a text is no UTF-8. TK_REGION. */
-tk_status tk_add_changes(tk_handle *surface, const tk_change *changes, size_t count,
-                         const char *texts, size_t len);
+tk_status tk_add_list_distinct(tk_handle *surface, const tk_change *changes, size_t count,
+                               const char *texts, size_t len, bool is_logged, bool keeps_lines,
+                               tk_handle *lines);
+
+/* Makes a list of changes in order, whose texts stand behind one another in `texts`, and logs it or
+ * not. Where lines are kept, the rows that the changes scroll off the top of the surface go to the
+ * end of the lines, the first one first: a text scrolls rows off, and a scroll up of a region that
+ * begins with row 0. Where none are kept, `lines` is any other handle, as one of TK_NONE. The four
+ * calls below are this one.
+ *
+ * A list that has a fault changes nothing, and its first fault is returned. TK_RANGE: a change's
+ * kind or another of its numbers is out of its range, its text goes past the end of the texts, or
+ * bytes of these are left after the last change. TK_UNREADABLE: a text is no UTF-8. TK_REGION.
+ * After an error no line is added, but after TK_MEMORY the first of these rows may have been. */
+static inline tk_status tk_add_list(tk_handle *surface, const tk_change *changes, size_t count,
+                                    const char *texts, size_t len, bool is_logged,
+                                    bool keeps_lines, tk_handle *lines) {
+    if (surface == lines)
+        return TK_NO_HANDLE;
+    return tk_add_list_distinct(surface, changes, count, texts, len, is_logged, keeps_lines, lines);
+}
+
+/* Makes a list of changes and logs it. */
+static inline tk_status tk_add_changes(tk_handle *surface, const tk_change *changes, size_t count,
+                                       const char *texts, size_t len) {
+    tk_handle none = TK_NONE;
+    return tk_add_list(surface, changes, count, texts, len, true, false, &none);
+}
 
 /* Makes a list of changes and logs none of them: no text is copied, and no memory is taken for
  * answers. It is for a surface that nobody follows: whoever does is sent the whole screen the next
  * time, unless nothing has changed. What was logged before is forgotten, and the number grows as by
- * tk_add_changes, which has the same list and the same faults. */
-tk_status tk_add_unlogged(tk_handle *surface, const tk_change *changes, size_t count,
-                          const char *texts, size_t len);
+ * tk_add_changes. */
+static inline tk_status tk_add_unlogged(tk_handle *surface, const tk_change *changes, size_t count,
+                                        const char *texts, size_t len) {
+    tk_handle none = TK_NONE;
+    return tk_add_list(surface, changes, count, texts, len, false, false, &none);
+}
+
+/* Makes a list of changes, as tk_add_changes does, and keeps the rows that they scroll off. */
+static inline tk_status tk_add_changes_scrolling(tk_handle *surface, const tk_change *changes,
+                                                 size_t count, const char *texts, size_t len,
+                                                 tk_handle *lines) {
+    return tk_add_list(surface, changes, count, texts, len, true, true, lines);
+}
+
+/* Makes a list of changes, as tk_add_unlogged does, and keeps the rows that they scroll off. */
+static inline tk_status tk_add_unlogged_scrolling(tk_handle *surface, const tk_change *changes,
+                                                  size_t count, const char *texts, size_t len,
+                                                  tk_handle *lines) {
+    return tk_add_list(surface, changes, count, texts, len, false, true, lines);
+}
 
 /* How many changes and bytes of texts a list has, and the number that it leads to. */
 typedef struct tk_list_counts {
@@ -706,36 +745,6 @@ tk_status tk_lines_push_row_distinct(tk_handle *lines, tk_handle *source, size_t
  * the row may show more default blanks. TK_RANGE: the row. */
 static inline tk_status tk_lines_push_row(tk_handle *lines, tk_handle *source, size_t row) {
     return lines == source ? TK_NO_HANDLE : tk_lines_push_row_distinct(lines, source, row);
-}
-
-tk_status tk_add_changes_scrolling_distinct(tk_handle *surface, const tk_change *changes,
-                                            size_t count, const char *texts, size_t len,
-                                            tk_handle *lines);
-
-tk_status tk_add_unlogged_scrolling_distinct(tk_handle *surface, const tk_change *changes,
-                                             size_t count, const char *texts, size_t len,
-                                             tk_handle *lines);
-
-/* Makes a list of changes, as tk_add_changes does, and moves the rows that they scroll off the top
- * of the surface to the end of the lines, the first one first. A text scrolls rows off, and a
- * scroll up of a region that begins with row 0. After an error no line is added, except that after
- * TK_MEMORY the first of these rows may have been. */
-static inline tk_status tk_add_changes_scrolling(tk_handle *surface, const tk_change *changes,
-                                                 size_t count, const char *texts, size_t len,
-                                                 tk_handle *lines) {
-    if (surface == lines)
-        return TK_NO_HANDLE;
-    return tk_add_changes_scrolling_distinct(surface, changes, count, texts, len, lines);
-}
-
-/* Makes a list of changes and logs none of them, as tk_add_unlogged does, and moves the rows that
- * they scroll off to the end of the lines, as above. */
-static inline tk_status tk_add_unlogged_scrolling(tk_handle *surface, const tk_change *changes,
-                                                  size_t count, const char *texts, size_t len,
-                                                  tk_handle *lines) {
-    if (surface == lines)
-        return TK_NO_HANDLE;
-    return tk_add_unlogged_scrolling_distinct(surface, changes, count, texts, len, lines);
 }
 
 /* Removes `count` lines from the one of index `first` on. Of the first lines the memory of as many

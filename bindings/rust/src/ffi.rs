@@ -278,19 +278,15 @@ extern "C" {
         count: usize,
         columns: *mut usize,
     ) -> i32;
-    pub fn tk_add_changes(
+    pub fn tk_add_list_distinct(
         surface: *mut tk_handle,
         changes: *const tk_change,
         count: usize,
         texts: *const u8,
         len: usize,
-    ) -> i32;
-    pub fn tk_add_unlogged(
-        surface: *mut tk_handle,
-        changes: *const tk_change,
-        count: usize,
-        texts: *const u8,
-        len: usize,
+        is_logged: bool,
+        keeps_lines: bool,
+        lines: *mut tk_handle,
     ) -> i32;
     pub fn tk_get_changes(
         handle: *mut tk_handle,
@@ -365,22 +361,6 @@ extern "C" {
         lines: *mut tk_handle,
         source: *mut tk_handle,
         row: usize,
-    ) -> i32;
-    pub fn tk_add_changes_scrolling_distinct(
-        surface: *mut tk_handle,
-        changes: *const tk_change,
-        count: usize,
-        texts: *const u8,
-        len: usize,
-        lines: *mut tk_handle,
-    ) -> i32;
-    pub fn tk_add_unlogged_scrolling_distinct(
-        surface: *mut tk_handle,
-        changes: *const tk_change,
-        count: usize,
-        texts: *const u8,
-        len: usize,
-        lines: *mut tk_handle,
     ) -> i32;
     pub fn tk_lines_remove(lines: *mut tk_handle, first: usize, count: usize) -> i32;
     pub fn tk_line_cells(

@@ -20,14 +20,21 @@ pub(crate) struct Handle(UnsafeCell<tk_handle>);
 // never written. The proofs speak of one thread: what moves a handle to another orders the calls.
 unsafe impl Send for Handle {}
 
+impl tk_handle {
+    /// A handle on nothing.
+    #[inline]
+    pub(crate) fn none() -> tk_handle {
+        tk_handle {
+            at: ptr::null_mut(),
+            is_live: false,
+        }
+    }
+}
+
 impl Handle {
     /// A handle on what this call makes in it.
     pub(crate) fn made(make: impl FnOnce(*mut tk_handle) -> i32) -> Result<Handle, Error> {
-        let none = tk_handle {
-            at: ptr::null_mut(),
-            is_live: false,
-        };
-        let handle = Handle(UnsafeCell::new(none));
+        let handle = Handle(UnsafeCell::new(tk_handle::none()));
         Error::check(make(handle.get()))?;
         Ok(handle)
     }

@@ -7,7 +7,7 @@ pub use crate::change::{
 use crate::changes::Changes;
 use crate::client::Ask;
 use crate::error::Error;
-use crate::ffi::{self, tk_change};
+use crate::ffi::{self, tk_change, tk_handle};
 use crate::handle::{self, Handle};
 use crate::lines::Lines;
 use crate::rows::{Row, Rows};
@@ -282,41 +282,40 @@ impl Surface {
     ) -> Result<SequenceNo, Error> {
         let number = self.current_seqno();
         let (list, texts) = changes.as_parts();
-        let add = if self.keeps_changes {
-            ffi::tk_add_changes_scrolling_distinct
-        } else {
-            ffi::tk_add_unlogged_scrolling_distinct
-        };
-        // Safety: both handles are live, and they are two, since both are borrowed alone. The list
-        // and its texts are only read.
+        // Safety: the lines are another handle, since both are borrowed alone.
+        unsafe { self.make_list(list, texts, true, lines.handle.get()) }?;
+        Ok(number.saturating_sub(1) + changes.len())
+    }
+
+    fn make(&mut self, list: &[tk_change], texts: &str) -> Result<(), Error> {
+        let mut none = tk_handle::none();
+        // Safety: a handle of its own is no surface's.
+        unsafe { self.make_list(list, texts, false, &mut none) }
+    }
+
+    // Makes a list of changes. Where lines are kept, the rows that they scroll off go to the end of
+    // those lines.
+    //
+    // Safety: `lines` points to a handle that no other call has, and that isn't this surface's.
+    unsafe fn make_list(
+        &mut self,
+        list: &[tk_change],
+        texts: &str,
+        keeps_lines: bool,
+        lines: *mut tk_handle,
+    ) -> Result<(), Error> {
+        // Safety: this handle is live, the caller vouches for the other one, and the list and its
+        // texts are only read.
         Error::check(unsafe {
-            add(
+            ffi::tk_add_list_distinct(
                 self.handle.get(),
                 list.as_ptr(),
                 list.len(),
                 texts.as_ptr(),
                 texts.len(),
-                lines.handle.get(),
-            )
-        })?;
-        Ok(number.saturating_sub(1) + changes.len())
-    }
-
-    fn make(&mut self, list: &[tk_change], texts: &str) -> Result<(), Error> {
-        let (handle, bytes) = (self.handle.get(), texts.as_bytes());
-        let add = if self.keeps_changes {
-            ffi::tk_add_changes
-        } else {
-            ffi::tk_add_unlogged
-        };
-        // Safety: the handle is live, and the list and its texts are only read.
-        Error::check(unsafe {
-            add(
-                handle,
-                list.as_ptr(),
-                list.len(),
-                bytes.as_ptr(),
-                bytes.len(),
+                self.keeps_changes,
+                keeps_lines,
+                lines,
             )
         })
     }

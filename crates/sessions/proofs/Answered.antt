@@ -8,9 +8,9 @@ use Rattle.std.proofs.KnownBytes.{Appends-nil, Appends-trans}
 use Rattle.std.proofs.lemmas.Bool.{true≢false}
 use Rattle.std.proofs.lemmas.List.Concat.{flat_map-append}
 use Rattle.sessions.specs.Lines.{LineSays, Say, LastLine, SayFirst, NoMore}
-use Rattle.sessions.specs.Answering.{Answers, AnswersAll, AnswersFirst, DoesLine, Ended, Next, SendsLine, WritesAnswers}
+use Rattle.sessions.specs.Answering.{AnswersRequest, AnswersAll, AnswersFirst, DoesLine, Ended, Next, SendsLine, WritesAnswers}
 use Rattle.sessions.specs.Requests.{MaySay, SaysRequest}
-use Rattle.sessions.specs.Sending.{Sender, bytes_of, first_source, stream_of}
+use Rattle.sessions.specs.Sending.{Sender, bytes_of, first_source, stream_sent}
 use Rattle.sessions.specs.declared.send.runs.Request.{Request}
 use Rattle.sessions.specs.declared.send.runs.SendOutcome.{SendOutcome}
 use Rattle.sessions.specs.Writing.{AppendsSome}
@@ -72,7 +72,7 @@ says_first_none None = tt
 says_first_none (Some xs) = NoMore xs
 
 -- what a line asks for is done
-pub line_done : (line : List ℕ) (s t : Sender) (n k : ℕ) (request : Request) (outcome : SendOutcome) (holds : List ℕ → Type 0) → MaySay line (Some request) → Answers s n request outcome t k → holds (bytes_of outcome) → SendsLine line s n t k holds
+pub line_done : (line : List ℕ) (s t : Sender) (n k : ℕ) (request : Request) (outcome : SendOutcome) (holds : List ℕ → Type 0) → MaySay line (Some request) → AnswersRequest s n request outcome t k → holds (bytes_of outcome) → SendsLine line s n t k holds
 line_done line s t n k request outcome holds says answers written = record {
   outcomes = outcome ∷ [];
   does = (says.0, (request, says.1, answers));
@@ -122,7 +122,7 @@ module _ (source w h : ℕ) (input : Known) where
       let Q : List SendOutcome → Type 0 = λ all. AnswersAll (first_source source w h) 0 (run.requests ++ []) all in
       subst P (append-nil run.requests) (subst Q (append-nil outcomes) (run.answered [] [] (Ended s n)))
 
-  done_first : (outcomes : List SendOutcome) (rest : Known) (s : Sender) (n : ℕ) (P : List ℕ → Type 0) → IsDone outcomes rest s n → P (stream_of outcomes) → AnswersFirst source w h input P
+  done_first : (outcomes : List SendOutcome) (rest : Known) (s : Sender) (n : ℕ) (P : List ℕ → Type 0) → IsDone outcomes rest s n → P (stream_sent outcomes) → AnswersFirst source w h input P
   done_first outcomes rest s n P run written = record {
     requests = run.requests;
     said = subst (λ (all : List Request). SayFirstAll input all) (append-nil run.requests) (run.said_first [] (says_first_none rest));
@@ -146,7 +146,7 @@ module _ (source w h : ℕ) (input : Known) where
     pub record IsSoFar (rest : Known) (s : Sender) (n : ℕ) (new : Known) : Type 0 where
       pub outcomes : List SendOutcome
       pub done : IsDone outcomes rest s n
-      pub written : Appends old new (stream_of outcomes)
+      pub written : Appends old new (stream_sent outcomes)
 
     pub so_far_first : (s : Sender) (n : ℕ) → s ≡ first_source source w h → n ≡ 0 → IsSoFar input s n old
     so_far_first s n is none =
@@ -166,7 +166,7 @@ module _ (source w h : ℕ) (input : Known) where
         done = done_on run.outcomes rest left line s t n k sends.outcomes run.done come sends.does;
         written =
             subst (λ (bytes : List ℕ). Appends old newer bytes) (sym (flat_map-append bytes_of run.outcomes sends.outcomes))
-            (Appends-trans old new newer (stream_of run.outcomes) (stream_of sends.outcomes) run.written sends.written);
+            (Appends-trans old new newer (stream_sent run.outcomes) (stream_sent sends.outcomes) run.written sends.written);
       }
 
       -- or a beginning of that
@@ -174,7 +174,7 @@ module _ (source w h : ℕ) (input : Known) where
       so_far_cut sends =
           done_first (run.outcomes ++ sends.outcomes) left t k (AppendsSome old newer) (done_on run.outcomes rest left line s t n k sends.outcomes run.done come sends.does)
           (subst (λ (bytes : List ℕ). AppendsSome old newer bytes) (sym (flat_map-append bytes_of run.outcomes sends.outcomes))
-          (some_next old new newer (stream_of run.outcomes) (stream_of sends.outcomes) run.written sends.written))
+          (some_next old new newer (stream_sent run.outcomes) (stream_sent sends.outcomes) run.written sends.written))
 
     module _ (rest : Known) (s : Sender) (n : ℕ) (new : Known) (run : IsSoFar rest s n new) where
       -- no line is left
@@ -192,4 +192,4 @@ module _ (source w h : ℕ) (input : Known) where
       so_far_whole = done_first run.outcomes rest s n (Appends old new) run.done run.written
 
       pub so_far_begun : AnswersFirst source w h input (AppendsSome old new)
-      so_far_begun = done_first run.outcomes rest s n (AppendsSome old new) run.done (some_all old new (stream_of run.outcomes) run.written)
+      so_far_begun = done_first run.outcomes rest s n (AppendsSome old new) run.done (some_all old new (stream_sent run.outcomes) run.written)

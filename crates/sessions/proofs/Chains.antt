@@ -19,8 +19,8 @@ use Rattle.termwiz_wire.specs.MoreBytes.{Laws}
 use Rattle.termwiz_wire.specs.declared.fault.Limits.{Limits}
 use Rattle.termwiz_wire.specs.declared.sent.SentAnswer.{SentAnswer}
 use Rattle.termwiz_wire.proofs.PastLimits.{laws}
-use Rattle.sessions.specs.Frames.{IsChain, IsWithin, TakesFrame, TakesFrames, first_shown, shown_with}
-use Rattle.sessions.specs.Watching.{Ends, IsWatched, ShowsAll, TakesNone, kept, shown_each, shown_one, stale_each, stale_one}
+use Rattle.sessions.specs.Frames.{IsChain, IsWithinFrames, TakesFrame, TakesFrames, first_shown, shown_with}
+use Rattle.sessions.specs.Watching.{EndsAt, IsWatched, ShowsFrames, TakesNone, kept, shown_each, shown_one, stale_each, stale_one}
 use Rattle.sessions.specs.declared.watch.runs.Watched.{Watched}
 
 -- an answer has some bytes
@@ -40,7 +40,7 @@ module _ (limits : Limits) (some : 0 < limits.bytes) where
   law = laws unicode_columns limits some
 
   -- an answer of a chain is decoded
-  decoded : (f : Given) (s : Shown) (bytes rest : List ℕ) → TakesFrame s f → IsWithin limits f → bytes ≡ answer unicode_columns f.sent ++ rest → answer_at unicode_columns limits bytes ≡ Ok (f.sent, rest)
+  decoded : (f : Given) (s : Shown) (bytes rest : List ℕ) → TakesFrame s f → IsWithinFrames limits f → bytes ≡ answer unicode_columns f.sent ++ rest → answer_at unicode_columns limits bytes ≡ Ok (f.sent, rest)
   decoded f s bytes rest takes within is = ap (answer_at unicode_columns limits) is ∙ law.again f.sent rest takes.form (record { screen = within.screen; bytes = within.bytes; borne = takes.borne })
 
   -- nothing is, from no bytes
@@ -48,7 +48,7 @@ module _ (limits : Limits) (some : 0 < limits.bytes) where
   none_read a rest bytes none is = ok_or_err (a, rest) law.goes.first (answer_at unicode_columns limits []) (ap (answer_at unicode_columns limits) (sym none) ∙ is) law.goes.starts
 
   -- it ends without a fault where nothing is left
-  ended_whole : (s : Shown) (rest : List ℕ) (n : ℕ) (fault : Option (ℕ × ClientError)) → rest ≡ [] → Ends limits s rest n fault → fault ≡ None
+  ended_whole : (s : Shown) (rest : List ℕ) (n : ℕ) (fault : Option (ℕ × ClientError)) → rest ≡ [] → EndsAt limits s rest n fault → fault ≡ None
   ended_whole s rest n None none ends = refl
   ended_whole s rest n (Some fault) none ends = absurd (ends.0 none)
 
@@ -61,7 +61,7 @@ module _ (limits : Limits) (some : 0 < limits.bytes) where
   no_fault s f bytes rest errors.Memory takes is fails = fails
 
   -- it doesn't end where an answer of the chain is left
-  ended_not : (s : Shown) (f : Given) (bytes rest : List ℕ) (n : ℕ) (fault : Option (ℕ × ClientError)) → TakesFrame s f → IsWithin limits f → bytes ≡ answer unicode_columns f.sent ++ rest → Ends limits s bytes n fault → ⊥
+  ended_not : (s : Shown) (f : Given) (bytes rest : List ℕ) (n : ℕ) (fault : Option (ℕ × ClientError)) → TakesFrame s f → IsWithinFrames limits f → bytes ≡ answer unicode_columns f.sent ++ rest → EndsAt limits s bytes n fault → ⊥
   ended_not s f bytes rest n None takes within is ends = answer-some f.sent rest (sym is ∙ ends)
   ended_not s f bytes rest n (Some fault) takes within is ends = no_fault s f bytes rest fault.1 takes (decoded f s bytes rest takes within is) ends.2
 
@@ -71,25 +71,25 @@ module _ (limits : Limits) (some : 0 < limits.bytes) where
     stale : stale_each n s given ≡ []
     no_fault : fault ≡ None
 
-  shows_each : (frames : List Given) (n : ℕ) (s t : Shown) (bytes rest : List ℕ) (given : List SentAnswer) (count : ℕ) (fault : Option (ℕ × ClientError)) → TakesFrames s frames → All (IsWithin limits) frames → bytes ≡ stream unicode_columns frames
-      → TakesAll unicode_columns limits s bytes given t rest → Ends limits t rest count fault → ShowsEach frames n s given fault
+  shows_each : (frames : List Given) (n : ℕ) (s t : Shown) (bytes rest : List ℕ) (given : List SentAnswer) (count : ℕ) (fault : Option (ℕ × ClientError)) → TakesFrames s frames → All (IsWithinFrames limits) frames → bytes ≡ stream unicode_columns frames
+      → TakesAll unicode_columns limits s bytes given t rest → EndsAt limits t rest count fault → ShowsEach frames n s given fault
   shows_each [] n s t bytes rest [] count fault chain within is takes ends = record { shown = refl; stale = refl; no_fault = ended_whole t rest count fault (sym takes.0 ∙ is) ends }
   shows_each [] n s t bytes rest (a ∷ given) count fault chain within is takes ends = absurd (none_read a takes.0 bytes is takes.1)
   shows_each (f ∷ frames) n s t bytes rest [] count fault chain within is takes ends =
-      absurd (ended_not s f bytes (stream unicode_columns frames) count fault chain.0 (All-head (IsWithin limits) f frames within) is (subst (λ (v : Shown). Ends limits v bytes count fault) takes.1 (subst (λ (b : List ℕ). Ends limits t b count fault) (sym takes.0) ends)))
+      absurd (ended_not s f bytes (stream unicode_columns frames) count fault chain.0 (All-head (IsWithinFrames limits) f frames within) is (subst (λ (v : Shown). EndsAt limits v bytes count fault) takes.1 (subst (λ (b : List ℕ). EndsAt limits t b count fault) (sym takes.0) ends)))
   shows_each (f ∷ frames) n s t bytes rest (a ∷ given) count fault chain within is takes ends =
-      let here : answer_at unicode_columns limits bytes ≡ Ok (f.sent, stream unicode_columns frames) = decoded f s bytes (stream unicode_columns frames) chain.0 (All-head (IsWithin limits) f frames within) is in
+      let here : answer_at unicode_columns limits bytes ≡ Ok (f.sent, stream unicode_columns frames) = decoded f s bytes (stream unicode_columns frames) chain.0 (All-head (IsWithinFrames limits) f frames within) is in
       let same : ◌≡◌ {A = SentAnswer × List ℕ} (a, takes.0) (f.sent, stream unicode_columns frames) = ok_is (a, takes.0) (f.sent, stream unicode_columns frames) (answer_at unicode_columns limits bytes) takes.1 here in
       let one : a ≡ f.sent = ap (λ (p : SentAnswer × List ℕ). p.0) same in
       let next : taken unicode_columns s a ≡ shown_with f = ap (taken unicode_columns s) one ∙ chain.0.leads in
-      let later = shows_each frames (n + 1) (taken unicode_columns s a) t takes.0 rest given count fault (subst (λ (v : Shown). TakesFrames v frames) (sym next) chain.1) (All-tail (IsWithin limits) f frames within) (ap (λ (p : SentAnswer × List ℕ). p.1) same) takes.3 ends in
+      let later = shows_each frames (n + 1) (taken unicode_columns s a) t takes.0 rest given count fault (subst (λ (v : Shown). TakesFrames v frames) (sym next) chain.1) (All-tail (IsWithinFrames limits) f frames within) (ap (λ (p : SentAnswer × List ℕ). p.1) same) takes.3 ends in
       record {
         shown = ap (λ (l : List Shown). l ++ shown_each (taken unicode_columns s a) given) (ap (shown_one s) one ∙ one_shown s f chain.0) ∙ ap (λ (l : List Shown). shown_with f ∷ l) later.shown;
         stale = ap (λ (l : List (ℕ × ℕ)). l ++ stale_each (n + 1) (taken unicode_columns s a) given) (ap (stale_one n s) one ∙ none_stale s f chain.0 n) ∙ later.stale;
         no_fault = later.no_fault;
       }
 
-  pub shows_chain : (each : Bool) (frames : List Given) (bytes : List ℕ) (w : Watched) → IsChain frames → All (IsWithin limits) frames → bytes ≡ stream unicode_columns frames → IsWatched limits bytes each w → ShowsAll each frames w
+  pub shows_chain : (each : Bool) (frames : List Given) (bytes : List ℕ) (w : Watched) → IsChain frames → All (IsWithinFrames limits) frames → bytes ≡ stream unicode_columns frames → IsWatched limits bytes each w → ShowsFrames each frames w
   shows_chain each frames bytes w chain within is watched =
       let all = shows_each frames 1 first_shown watched.takes.last bytes watched.takes.rest watched.given (length watched.given) w.fault chain within is watched.takes.takes watched.takes.ends in
       record {

@@ -5,7 +5,7 @@ use Rattle.std.specs.Io.KnownBytes.{IsAtEnd, Keeps, prepend_known}
 use Rattle.termwiz_cell.specs.Width.{unicode_columns}
 use Rattle.termwiz_cell.specs.declared.emoji.UnicodeWidths.{UnicodeWidths}
 use Rattle.termwiz_share.specs.Client.{ClientValue, Shown, has_other_size, shown_by, size_place}
-use Rattle.termwiz_share.specs.Feeding.{AreCut, EndsHere, Steps, TakesNext}
+use Rattle.termwiz_share.specs.Feeding.{AreCut, EndsHere, TakesNextOrNone, TakesNext}
 use Rattle.termwiz_share.specs.declared.error.ClientError.{ClientError}
 use Rattle.termwiz_share.specs.declared.error.ClientError.TheVariants as errors
 use Rattle.termwiz_share.specs.declared.taken.Taken.{Taken}
@@ -19,7 +19,7 @@ use Rattle.termwiz_wire.specs.declared.fault.Limits.{Limits}
 use Rattle.termwiz_wire.specs.declared.sent.SentAnswer.{SentAnswer}
 use Rattle.termwiz_wire.proofs.PastLimits.{laws}
 use Rattle.sessions.specs.Sending.{columns}
-use Rattle.sessions.specs.Taking.{IsSession, TakesComing, TakesOne, coming, of_client}
+use Rattle.sessions.specs.Taking.{IsSession, TakesComing, TakesAnswer, coming, of_client}
 use Rattle.sessions.specs.Watching.{TakesNone}
 use Rattle.sessions.specs.declared.watch.stream.StreamError.{StreamError}
 use Rattle.sessions.specs.declared.watch.stream.StreamError.TheVariants.{Answer, Session}
@@ -77,7 +77,7 @@ module _ (limits : Limits) (some : 0 < limits.bytes) where
   goes = (laws unicode_columns limits some).goes
 
   -- what is taken is taken where more bytes come
-  more_one : (s u : Shown) (bytes left more : Bytes) (t : Taken) → TakesOne limits s bytes t u left → TakesOne limits s (bytes ++ more) t u (left ++ more)
+  more_one : (s u : Shown) (bytes left more : Bytes) (t : Taken) → TakesAnswer limits s bytes t u left → TakesAnswer limits s (bytes ++ more) t u (left ++ more)
   more_one s u bytes left more t one = record {
     sent = one.sent;
     decoded = goes.value bytes more one.sent left one.decoded;
@@ -96,7 +96,7 @@ module _ (limits : Limits) (some : 0 < limits.bytes) where
       other (ap (λ (x : Fault). x.kind) same ∙ goes.starts_cut)
 
   -- an answer that a client took off its bytes
-  took : (c d : Viewer) (t : Taken) → c.limits ≡ limits → Steps columns c (Ok (Some t)) d → TakesOne limits (shown_by c) c.kept t (shown_by d) d.kept
+  took : (c d : Viewer) (t : Taken) → c.limits ≡ limits → TakesNextOrNone columns c (Ok (Some t)) d → TakesAnswer limits (shown_by c) c.kept t (shown_by d) d.kept
   took c d outcomes.Shown same s = record { sent = s.0; decoded = rw same at s.1; size = s.3; outcome = rw s.2 refl; shows = s.4 }
   took c d (outcomes.Stale at) same s = record {
     sent = s.0;
@@ -131,7 +131,7 @@ module _ (first : Viewer) (some : 0 < first.limits.bytes) (known : Option Bytes)
   abbrev Comes : Result (Option Taken) StreamError → Viewer → Option Bytes → Type 0
   Comes result new after = IfSome known (λ bytes. TakesComing first.limits (shown_by first) bytes result (shown_by new) (coming new after))
 
-  open_step : (new : Viewer) (r : Result (Option Taken) ClientError) → TakesNext columns now r new → Steps columns now r new
+  open_step : (new : Viewer) (r : Result (Option Taken) ClientError) → TakesNext columns now r new → TakesNextOrNone columns now r new
   open_step new r (inl stopped) = absurd (let bad : Some stopped.0 ≡ None = sym stopped.1 ∙ there.reading in let no_way : ⊥ = cc in no_way)
   open_step new r (inr step) = step.1
 
@@ -139,14 +139,14 @@ module _ (first : Viewer) (some : 0 < first.limits.bytes) (known : Option Bytes)
   pub comes_taken : (new : Viewer) (t : Taken) → TakesNext columns now (Ok (Some t)) new → Comes (Ok (Some t)) new later
   comes_taken new t next = if_known known (λ bytes. TakesComing first.limits (shown_by first) bytes (Ok (Some t)) (shown_by new) (coming new later)) (λ bytes is.
       let rest = all_of bytes is in
-      let here : TakesOne first.limits (shown_by first) now.kept t (shown_by new) new.kept = subst (λ (s : Shown). TakesOne first.limits s now.kept t (shown_by new) new.kept) there.shows (took first.limits some now new t there.limits (open_step new (Ok (Some t)) next)) in (
+      let here : TakesAnswer first.limits (shown_by first) now.kept t (shown_by new) new.kept = subst (λ (s : Shown). TakesAnswer first.limits s now.kept t (shown_by new) new.kept) there.shows (took first.limits some now new t there.limits (open_step new (Ok (Some t)) next)) in (
         new.kept ++ rest.rest,
         ap (prepend_known new.kept) rest.known,
-        subst (λ (b : Bytes). TakesOne first.limits (shown_by first) b t (shown_by new) (new.kept ++ rest.rest)) (sym rest.all) (more_one first.limits some (shown_by first) (shown_by new) now.kept new.kept rest.rest t here),
+        subst (λ (b : Bytes). TakesAnswer first.limits (shown_by first) b t (shown_by new) (new.kept ++ rest.rest)) (sym rest.all) (more_one first.limits some (shown_by first) (shown_by new) now.kept new.kept rest.rest t here),
       ))
 
   -- the next one isn't
-  fails : (new : Viewer) (e : ClientError) → Steps columns now (Err e) new → (bytes : Bytes) → known ≡ Some bytes → TakesComing first.limits (shown_by first) bytes (Err (of_client e)) (shown_by new) (coming new later)
+  fails : (new : Viewer) (e : ClientError) → TakesNextOrNone columns now (Err e) new → (bytes : Bytes) → known ≡ Some bytes → TakesComing first.limits (shown_by first) bytes (Err (of_client e)) (shown_by new) (coming new later)
   fails new (errors.Fault f) step bytes is =
       let rest = all_of bytes is in
       let here : answer_at unicode_columns first.limits now.kept ≡ Err f = rw there.limits at step.0 in

@@ -10,15 +10,15 @@ use Rattle.termwiz_share.specs.Histories.{Given, stream}
 use Rattle.termwiz_share.specs.Serving.{KeepsClients, Serves}
 use Rattle.termwiz_surface.specs.declared.view.Outcome.{Outcome}
 use Rattle.sessions.specs.Frames.{TakesFrames, IsChain, first_shown, shown_with}
-use Rattle.sessions.specs.SendSteps.{HasNamed, Steps}
-use Rattle.sessions.specs.Sending.{Happens, IsAnswered, IsSendInRange, Sender, stream_of, columns, frame_of, own_ask, Sends, Ended, Made, Answered, first_source, AreSent}
+use Rattle.sessions.specs.SendSteps.{HasNamed, SendsOn}
+use Rattle.sessions.specs.Sending.{Happens, IsAnswered, IsSendInRange, Sender, stream_sent, columns, frame_of, own_ask, Sends, Ended, Made, Answered, first_source, AreSent}
 use Rattle.sessions.specs.declared.send.runs.SendEvent.{SendEvent}
 use Rattle.sessions.specs.declared.send.runs.SendEvent.TheVariants.{Send}
 use Rattle.sessions.specs.declared.send.runs.SendOutcome.{SendOutcome}
 use Rattle.sessions.specs.declared.send.runs.SendOutcome.TheVariants.{Of, Sent}
 use Rattle.sessions.proofs.Leading.{first_named, given_leads, given_named, nobody, still_named}
 
-pub made_steps : (s t : Sender) (n : ℕ) (v : Shown) (e : SendEvent) (outcome : Outcome) → Happens s e outcome t → KeepsClients columns s t → HasNamed s n v → Steps s n v e (Of outcome) t n
+pub made_steps : (s t : Sender) (n : ℕ) (v : Shown) (e : SendEvent) (outcome : Outcome) → Happens s e outcome t → KeepsClients columns s t → HasNamed s n v → SendsOn s n v e (Of outcome) t n
 made_steps s t n v e outcome happens keeps named = record {
   given = [];
   next = v;
@@ -27,7 +27,7 @@ made_steps s t n v e outcome happens keeps named = record {
   sends = λ events outcomes frames r. Made s t n e outcome events outcomes frames happens r;
 }
 
-pub given_steps : (s t : Sender) (n : ℕ) (v : Shown) (bytes : Vec ℕ Global) → IsAnswered s (own_ask s n) bytes t → KeepsClients columns s t → HasNamed s n v → Steps s n v Send (Sent bytes) t (next_number t.surface.log)
+pub given_steps : (s t : Sender) (n : ℕ) (v : Shown) (bytes : Vec ℕ Global) → IsAnswered s (own_ask s n) bytes t → KeepsClients columns s t → HasNamed s n v → SendsOn s n v Send (Sent bytes) t (next_number t.surface.log)
 given_steps s t n v bytes is keeps named =
     let same : t.number ≡ s.number = ap (λ (x : Sender). x.number) is.trims in
     let there : HasNamed t n v = still_named s t n v same keeps named in
@@ -41,7 +41,7 @@ given_steps s t n v bytes is keeps named =
     }
 
 -- the bytes that were sent are those of the answers
-pub stream-encoded : (s : Sender) (n : ℕ) (events : List SendEvent) (outcomes : List SendOutcome) (frames : List Given) → Sends s n events outcomes frames → stream_of outcomes ≡ stream unicode_columns frames
+pub stream-encoded : (s : Sender) (n : ℕ) (events : List SendEvent) (outcomes : List SendOutcome) (frames : List Given) → Sends s n events outcomes frames → stream_sent outcomes ≡ stream unicode_columns frames
 stream-encoded s n events outcomes frames (Ended _ _) = refl
 stream-encoded s n events outcomes frames (Made _ t _ e outcome es os fs happens r) = stream-encoded t n es os fs r
 stream-encoded s n events outcomes frames (Answered _ t _ bytes es os fs is r) = λ i. is.response.encoded i ++ stream-encoded t (next_number t.surface.log) es os fs r i
@@ -69,7 +69,7 @@ first_run number w h events s n is none serves in_range =
     }))
 
 pub next_run : (number w h : ℕ) (events left : List SendEvent) (outcomes : List SendOutcome) (s t : Sender) (n k : ℕ) (e : SendEvent) (outcome : SendOutcome) (run : HasRun number w h events (e ∷ left) outcomes s n)
-    → Steps s n run.viewing e outcome t k → All IsSendInRange left → HasRun number w h events left (outcomes ++ outcome ∷ []) t k
+    → SendsOn s n run.viewing e outcome t k → All IsSendInRange left → HasRun number w h events left (outcomes ++ outcome ∷ []) t k
 next_run number w h events left outcomes s t n k e outcome run step in_range = record {
   frames = run.frames ++ step.given;
   viewing = step.next;

@@ -19,8 +19,8 @@ use Rattle.termwiz_surface.specs.Schedule.{HasUnmarkedRows}
 use Rattle.termwiz_wire.specs.declared.fault.Limits.{Limits}
 use Rattle.termwiz_wire.specs.declared.sent.SentAnswer.{SentAnswer}
 use Rattle.sessions.specs.Frames.{first_shown}
-use Rattle.sessions.specs.Taking.{TakesComing, TakesOne, coming, outcome_of}
-use Rattle.sessions.specs.Watching.{Ends, IsWatched, KeepsAnswer, KeepsOne, TakesUpTo, kept, shown_each, shown_one, stale_each, stale_one, viewed}
+use Rattle.sessions.specs.Taking.{TakesComing, TakesAnswer, coming, taken_as}
+use Rattle.sessions.specs.Watching.{EndsAt, IsWatched, KeepsAnswer, KeepsOne, TakesUpTo, kept, shown_each, shown_one, stale_each, stale_one, viewed}
 use Rattle.sessions.specs.declared.watch.runs.View.{View}
 use Rattle.sessions.specs.declared.watch.runs.Watched.{Watched}
 use Rattle.sessions.specs.declared.watch.stream.StreamError.{StreamError}
@@ -66,7 +66,7 @@ stale_by_one (outcomes.Stale at) n = (n, at) ∷ []
 abbrev made_by : Shown → SentAnswer → Bool → Taken
 made_by s a b = if b then outcomes.Shown else outcomes.Stale (stale_place s a)
 
-shows_one : (s u : Shown) (a : SentAnswer) (t : Taken) → t ≡ outcome_of s a → u ≡ taken unicode_columns s a → shown_one s a ≡ shown_by_one t u
+shows_one : (s u : Shown) (a : SentAnswer) (t : Taken) → t ≡ taken_as s a → u ≡ taken unicode_columns s a → shown_one s a ≡ shown_by_one t u
 shows_one s u a t is shows = elim (cases_Bool (fits s a)) [
   | inl fit ↦ lines fit ∙ ap (λ (v : Shown). v ∷ []) (sym shows) ∙ ap (λ (x : Taken). shown_by_one x u) (sym (is ∙ ap (made_by s a) fit))
   | inr unfit ↦ lines unfit ∙ ap (λ (x : Taken). shown_by_one x u) (sym (is ∙ ap (made_by s a) unfit))
@@ -80,14 +80,14 @@ abbrev pub StaysBy : Taken → Shown → Shown → Type 0
 StaysBy outcomes.Shown s u = Unit {0}
 StaysBy (outcomes.Stale at) s u = u ≡ s
 
-stays_one : (s u : Shown) (a : SentAnswer) (t : Taken) → t ≡ outcome_of s a → u ≡ taken unicode_columns s a → StaysBy t s u
+stays_one : (s u : Shown) (a : SentAnswer) (t : Taken) → t ≡ taken_as s a → u ≡ taken unicode_columns s a → StaysBy t s u
 stays_one s u a outcomes.Shown is shows = tt
 stays_one s u a (outcomes.Stale at) is shows = elim (cases_Bool (fits s a)) [
   | inl fit ↦ absurd (let bad : outcomes.Stale at ≡ outcomes.Shown = is ∙ ap (made_by s a) fit in let no_way : ⊥ = cc in no_way)
   | inr unfit ↦ shows ∙ none_taken unicode_columns s a unfit
 ]
 
-stales_one : (n : ℕ) (s : Shown) (a : SentAnswer) (t : Taken) → t ≡ outcome_of s a → stale_one n s a ≡ stale_by_one t n
+stales_one : (n : ℕ) (s : Shown) (a : SentAnswer) (t : Taken) → t ≡ taken_as s a → stale_one n s a ≡ stale_by_one t n
 stales_one n s a t is = elim (cases_Bool (fits s a)) [
   | inl fit ↦ places fit ∙ ap (λ (x : Taken). stale_by_one x n) (sym (is ∙ ap (made_by s a) fit))
   | inr unfit ↦ places unfit ∙ ap (λ (x : Taken). stale_by_one x n) (sym (is ∙ ap (made_by s a) unfit))
@@ -151,7 +151,7 @@ module _ (limits : Limits) (bytes : Bytes) (count : ℕ) (now new : Viewer) (lat
     pub stale : stale_each 1 first_shown come.given ≡ stale_each 1 first_shown before.given ++ stale_by_one t (count + 1)
     pub stays : StaysBy t (shown_by now) (shown_by new)
 
-  next_is : (t : Taken) (left : Bytes) → coming new after ≡ Some left → TakesOne limits (shown_by now) before.left t (shown_by new) left → HasNext t
+  next_is : (t : Taken) (left : Bytes) → coming new after ≡ Some left → TakesAnswer limits (shown_by now) before.left t (shown_by new) left → HasNext t
   next_is t left left_is one = record {
     come = record {
       given = before.given ++ one.sent ∷ [];

@@ -20,7 +20,7 @@ abbrev pub first_shown : Shown
 first_shown = record { picture = blank_screen 1 1; source = 0; number = 0 }
 
 -- the answer has no more cells, rows and bytes than the limits
-pub record IsWithin (limits : Limits) (f : Given) : Type 0 where
+pub record IsWithinFrames (limits : Limits) (f : Given) : Type 0 where
   pub screen : FitsLimits limits f.sent.answer.width f.sent.answer.height
   pub bytes : length (answer unicode_columns f.sent) ≤ limits.bytes
 

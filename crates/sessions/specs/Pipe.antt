@@ -3,9 +3,9 @@ use Rattle.std.specs.List.{All}
 use Rattle.std.specs.Prelude.{ℕ, Bool, List}
 use Rattle.termwiz_wire.specs.declared.fault.Limits.{Limits}
 use Rattle.termwiz_share.specs.Histories.{Given}
-use Rattle.sessions.specs.Frames.{IsWithin}
+use Rattle.sessions.specs.Frames.{IsWithinFrames}
 use Rattle.sessions.specs.Sending.{AreSent}
-use Rattle.sessions.specs.Watching.{ShowsAll}
+use Rattle.sessions.specs.Watching.{ShowsFrames}
 use Rattle.sessions.specs.declared.send.runs.SendEvent.{SendEvent}
 use Rattle.sessions.specs.declared.send.runs.SendOutcome.{SendOutcome}
 use Rattle.sessions.specs.declared.watch.runs.Watched.{Watched}
@@ -17,4 +17,4 @@ pub record IsPiped (limits : Limits) (source w h : ℕ) (events : List SendEvent
   pub outcomes : List SendOutcome
   pub frames : List Given
   pub sent : AreSent source w h events outcomes frames
-  pub shows : All (IsWithin limits) frames → ShowsAll each frames shown
+  pub shows : All (IsWithinFrames limits) frames → ShowsFrames each frames shown

@@ -5,7 +5,7 @@ use Rattle.std.specs.Prelude.{ℕ, List, Option, IfSome, String}
 use Rattle.sessions.specs.Lines.{Say}
 use Rattle.termwiz_share.specs.Histories.{Given}
 use Rattle.sessions.specs.Saying.{SaysSend}
-use Rattle.sessions.specs.Sending.{AreSent, stream_of}
+use Rattle.sessions.specs.Sending.{AreSent, stream_sent}
 use Rattle.sessions.specs.Words.{GiveSending}
 use Rattle.sessions.specs.Writing.{AppendsSome}
 use Rattle.sessions.specs.declared.send.runs.SendEvent.{SendEvent}
@@ -28,11 +28,11 @@ pub record WritesRun {A : Type 0} (words : List (String A)) (script old new : Op
     Type 0 where
   pub outcomes : List SendOutcome
   pub run : IsSendRun words script outcomes
-  pub written : Appends old new (stream_of outcomes)
+  pub written : Appends old new (stream_sent outcomes)
 
 -- a beginning of it is
 pub record BeginsRun {A : Type 0} (words : List (String A)) (script old new : Option (List ℕ)) :
     Type 0 where
   pub outcomes : List SendOutcome
   pub run : IsSendRun words script outcomes
-  pub begun : AppendsSome old new (stream_of outcomes)
+  pub begun : AppendsSome old new (stream_sent outcomes)

@@ -19,7 +19,7 @@ pub record HasNamed (s : Sender) (n : ℕ) (v : Shown) : Type 0 where
 
 -- from s and n over an event to t and k: a client that shows v takes what is sent then, and any run
 -- goes on from there
-pub record Steps (s : Sender) (n : ℕ) (v : Shown) (e : SendEvent) (outcome : SendOutcome)
+pub record SendsOn (s : Sender) (n : ℕ) (v : Shown) (e : SendEvent) (outcome : SendOutcome)
     (t : Sender) (k : ℕ) : Type 0 where
   pub given : List Given
   pub next : Shown

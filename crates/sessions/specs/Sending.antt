@@ -61,8 +61,8 @@ abbrev pub bytes_of : SendOutcome → List ℕ
 bytes_of (Of outcome) = []
 bytes_of (Sent bytes) = bytes.items
 
-abbrev pub stream_of : List SendOutcome → List ℕ
-stream_of outcomes = flat_map bytes_of outcomes
+abbrev pub stream_sent : List SendOutcome → List ℕ
+stream_sent outcomes = flat_map bytes_of outcomes
 
 -- by what an answer is sent where n is the number of the last one
 abbrev pub own_ask : Sender → ℕ → Ask

@@ -22,8 +22,8 @@ abbrev pub coming : ClientValue UnicodeWidths → Option (List ℕ) → Option (
 coming c remaining = prepend_known c.kept remaining
 
 -- what comes of an answer that is taken
-abbrev pub outcome_of : Shown → SentAnswer → Taken
-outcome_of s a = if fits s a then outcomes.Shown else outcomes.Stale (stale_place s a)
+abbrev pub taken_as : Shown → SentAnswer → Taken
+taken_as s a = if fits s a then outcomes.Shown else outcomes.Stale (stale_place s a)
 
 -- how a stream ends where a client fails
 abbrev pub of_client : ClientError → StreamError
@@ -38,19 +38,19 @@ IsSession (Answer e) = ⊥
 IsSession (Session error) = ⊤
 
 -- the bytes begin with an answer that a client that shows s takes so, and it shows u then
-pub record TakesOne (limits : Limits) (s : Shown) (bytes : List ℕ) (t : Taken) (u : Shown)
+pub record TakesAnswer (limits : Limits) (s : Shown) (bytes : List ℕ) (t : Taken) (u : Shown)
     (left : List ℕ) : Type 0 where
   pub sent : SentAnswer
   pub decoded : answer_at unicode_columns limits bytes ≡ Ok (sent, left)
   pub size : has_other_size s sent ≡ false
-  pub outcome : t ≡ outcome_of s sent
+  pub outcome : t ≡ taken_as s sent
   pub shows : u ≡ taken unicode_columns s sent
 
 -- of all the bytes that come the next answer is taken, or there is none, or it isn't taken
 abbrev pub TakesComing :
     Limits → Shown → List ℕ → Result (Option Taken) StreamError → Shown → Option (List ℕ) → Type 0
 TakesComing limits s bytes (Ok (Some t)) u coming =
-    (left : List ℕ) × (coming ≡ Some left) × TakesOne limits s bytes t u left
+    (left : List ℕ) × (coming ≡ Some left) × TakesAnswer limits s bytes t u left
 TakesComing limits s bytes (Ok None) u coming = (bytes ≡ []) × (u ≡ s)
 TakesComing limits s bytes (Err (Answer e)) u coming =
     (bytes ≡ [] → ⊥) × TakesNone limits s bytes e × (u ≡ s)

@@ -73,9 +73,9 @@ module _ (limits : Limits) where
   TakesNone s bytes _ = ⊥
 
   -- `count` answers were taken: either the bytes end there, or the next one isn't taken
-  abbrev pub Ends : Shown → List ℕ → ℕ → Option (ℕ × ClientError) → Type 0
-  Ends s rest count None = rest ≡ []
-  Ends s rest count (Some fault) =
+  abbrev pub EndsAt : Shown → List ℕ → ℕ → Option (ℕ × ClientError) → Type 0
+  EndsAt s rest count None = rest ≡ []
+  EndsAt s rest count (Some fault) =
       (rest ≡ [] → ⊥) × (fault.0 ≡ count + 1) × TakesNone s rest fault.1
 
   -- these answers of the bytes are taken, with this end
@@ -84,7 +84,7 @@ module _ (limits : Limits) where
     pub last : Shown
     pub rest : List ℕ
     pub takes : TakesAll unicode_columns limits first_shown bytes given last rest
-    pub ends : Ends last rest (length given) fault
+    pub ends : EndsAt last rest (length given) fault
 
   -- what is shown of these bytes, which answers are stale, and why no more are taken
   pub record IsWatched (bytes : List ℕ) (each : Bool) (w : Watched) : Type 0 where
@@ -95,7 +95,7 @@ module _ (limits : Limits) where
     pub stale : w.stale.items ≡ stale_each 1 first_shown given
 
 -- after each frame its screen is shown, or after the last one alone
-pub record ShowsAll (each : Bool) (frames : List Given) (w : Watched) : Type 0 where
+pub record ShowsFrames (each : Bool) (frames : List Given) (w : Watched) : Type 0 where
   pub views : map viewed w.views.items ≡ kept each (map shown_with frames)
   pub unmarked : All (λ (view : View). HasUnmarkedRows view.screen.screen) w.views.items
   pub stale : w.stale.items ≡ []

@@ -2,7 +2,7 @@
 ghost use Rattle.std.specs.Prelude.{◌≡◌, ◌<◌, IfOk};
 ghost use Rattle.std.specs.List.{All};
 ghost use Rattle.sessions.specs.Pipe.{IsPiped};
-ghost use Rattle.sessions.specs.Sending.{IsSendInRange, bytes_of, stream_of};
+ghost use Rattle.sessions.specs.Sending.{IsSendInRange, bytes_of, stream_sent};
 ghost use Rattle.termwiz_surface.specs.{IsSurfaceSize};
 
 use crate::ending::SessionError;
@@ -38,7 +38,7 @@ pub fn piped(
 
 /// The bytes that were sent, one answer after another.
 pub fn stream(alloc: Global, outcomes: &[SendOutcome]) -> Result<Vec<u8>, AllocError>
-    ensures { IfOk result (λ stream. stream.items ≡ stream_of outcomes.now) }
+    ensures { IfOk result (λ stream. stream.items ≡ stream_sent outcomes.now) }
 {
     let mut stream = Vec::new(alloc);
     for outcome in outcomes {

@@ -3,7 +3,7 @@ ghost use Rattle.std.specs.Prelude.{◌≡◌, ◌⊎◌, IfErr, IfOk, IfSome, I
 ghost use Rattle.std.specs.Io.KnownBytes.{Appends};
 ghost use Rattle.std.specs.List.{All};
 ghost use Rattle.sessions.specs.Answering.{AnswersAsAsked, AnswersFirstAsAsked};
-ghost use Rattle.sessions.specs.Sending.{IsSendInRange, bytes_of, stream_of};
+ghost use Rattle.sessions.specs.Sending.{IsSendInRange, bytes_of, stream_sent};
 ghost use Rattle.sessions.specs.Saying.{SaysSend};
 ghost use Rattle.sessions.specs.SendRun.{BeginsRun, IsSendRun, WritesRun};
 ghost use Rattle.sessions.specs.Words.{AreRunWords, AreSendWords, IsInteractive};
@@ -182,8 +182,8 @@ fn send_each<O: Write, E: Write>(
 ) -> Result<(), SessionError>
     ensures failed { IfErr result (λ error. status_of error ≡ 3) }
     ensures sent { OnOk result (
-        Appends (O.contents out.old) (O.contents out.new) (stream_of outcomes.now)) }
-    ensures begun { AppendsSome (O.contents out.old) (O.contents out.new) (stream_of outcomes.now) }
+        Appends (O.contents out.old) (O.contents out.new) (stream_sent outcomes.now)) }
+    ensures begun { AppendsSome (O.contents out.old) (O.contents out.new) (stream_sent outcomes.now) }
 {
     for outcome in outcomes {
         send_one(alloc, outcome, out, err)?;

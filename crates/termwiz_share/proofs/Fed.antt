@@ -26,9 +26,9 @@ use Rattle.termwiz_share.specs.declared.error.ClientError.TheVariants as errors
 use Rattle.termwiz_share.specs.declared.taken.Taken.{Taken}
 use Rattle.termwiz_share.specs.declared.taken.Taken.TheVariants as shows
 use Rattle.termwiz_share.specs.Client.{ClientValue, SameSettings, Shown, blank_screen, fits, has_other_size, shown_by, stale_place, taken}
-use Rattle.termwiz_share.specs.Feeding.{AreCut, Ends, Feeds, HasTaken, Steps, TakesAll, TakesNext, with_bytes}
+use Rattle.termwiz_share.specs.Feeding.{AreCut, EndsAfter, Feeds, HasTaken, TakesNextOrNone, TakesAll, TakesNext, with_bytes}
 use Rattle.termwiz_wire.specs.MoreBytes.{IsCut, Laws}
-use Rattle.termwiz_share.specs.Histories.{Follows, FollowsNext, FollowsTo, Given, HasFollowed, HasKept, HasMore, HasStopped, HasTakenFirst, IsGenuine, IsNamed, after, after_all, stream}
+use Rattle.termwiz_share.specs.Histories.{ClientFollows, FollowsNext, ClientFollowsTo, Given, ClientHasFollowed, HasKept, HasMore, HasStopped, HasTakenFirst, IsGenuine, IsPictureNamed, after, after_all, stream}
 use Rattle.termwiz_share.proofs.Streams.{AreAgain, Decodes, no_fault, none_whole, others_of}
 
 -- one more answer at the end
@@ -70,7 +70,7 @@ played_size m p (c ∷ cs) =
     (rest.0 ∙ one.width, rest.1 ∙ one.height)
 
 module _ (m : List ℕ → ℕ) (limits : Limits) (histories : ℕ → ℕ → FullScreen) where
-  module _ (s : Shown) (g : Given) (named : IsNamed histories s) (is : IsGenuine m limits histories g) where
+  module _ (s : Shown) (g : Given) (named : IsPictureNamed histories s) (is : IsGenuine m limits histories g) where
     abbrev a : AnswerValue
     a = g.sent.answer
 
@@ -112,14 +112,14 @@ module _ (m : List ℕ → ℕ) (limits : Limits) (histories : ℕ → ℕ → F
       ]
     ]
 
-    pub named_after : IsNamed histories (after s g)
-    named_after = elim (fits s g.sent) as (λ b. IsNamed histories (if b then record { picture = g.shown; source = g.sent.source; number = a.number } else s)) [
+    pub named_after : IsPictureNamed histories (after s g)
+    named_after = elim (fits s g.sent) as (λ b. IsPictureNamed histories (if b then record { picture = g.shown; source = g.sent.source; number = a.number } else s)) [
       | true ↦ is.carries.named
       | false ↦ named
     ]
 
   -- all answers of a list are taken so
-  pub all_taken : (s : Shown) (given : List Given) → IsNamed histories s → AllByRecursion (IsGenuine m limits histories) given → (fold (taken m) s (map (λ (g : Given). g.sent) given) ≡ after_all s given) × IsNamed histories (after_all s given)
+  pub all_taken : (s : Shown) (given : List Given) → IsPictureNamed histories s → AllByRecursion (IsGenuine m limits histories) given → (fold (taken m) s (map (λ (g : Given). g.sent) given) ≡ after_all s given) × IsPictureNamed histories (after_all s given)
   all_taken s [] named each = (refl, named)
   all_taken s (g ∷ gs) named each =
       let one = taken_as s g named each.0 in
@@ -153,9 +153,9 @@ module _ (m : List ℕ → ℕ) (limits : Limits) (histories : ℕ → ℕ → F
     pub genuine : AllByRecursion (IsGenuine m limits histories) others
     pub whole : left ≡ stream m others
     pub shows : t ≡ after_all s given
-    pub named : IsNamed histories t
+    pub named : IsPictureNamed histories t
 
-  pub is_taken : (sent : List Given) (s t : Shown) (bytes future rest : List ℕ) (given : List SentAnswer) → AllByRecursion (IsGenuine m limits histories) sent → bytes ++ future ≡ stream m sent → IsNamed histories s → TakesAll m limits s bytes given t rest → IsTaken sent (length given) s t (rest ++ future)
+  pub is_taken : (sent : List Given) (s t : Shown) (bytes future rest : List ℕ) (given : List SentAnswer) → AllByRecursion (IsGenuine m limits histories) sent → bytes ++ future ≡ stream m sent → IsPictureNamed histories s → TakesAll m limits s bytes given t rest → IsTaken sent (length given) s t (rest ++ future)
   is_taken sent s t bytes future rest given each whole named takes =
       let h = others_of (answer_at m limits) IsCut bytes_of sent_of laws.goes bytes future sent given rest (are_again sent each) whole (decoded m limits s bytes given t rest takes) in
       let parts = front_genuine h.taken h.others (subst (AllByRecursion (IsGenuine m limits histories)) h.all each) in
@@ -169,7 +169,7 @@ module _ (m : List ℕ → ℕ) (limits : Limits) (histories : ℕ → ℕ → F
         genuine = parts.1;
         whole = h.whole;
         shows = shows;
-        named = subst (IsNamed histories) (sym shows) all.1;
+        named = subst (IsPictureNamed histories) (sym shows) all.1;
       }
 
   pub has_more : (others : List Given) (left future : List ℕ) → AllByRecursion (IsGenuine m limits histories) others → left ++ future ≡ stream m others → AreCut m limits left → HasMore m others left
@@ -203,13 +203,13 @@ module _ (m : List ℕ → ℕ) (limits : Limits) (histories : ℕ → ℕ → F
           record { first = g; others = others; all = all; same = (let same : g.sent ≡ a = cc in same); genuine = parts.0.0; rest_genuine = parts.1; whole = left }
 
   -- it has the size of what is shown, where it fits
-  pub no_other_size : (others : List Given) (left future : List ℕ) (t : Shown) (a : SentAnswer) (rest : List ℕ) → AllByRecursion (IsGenuine m limits histories) others → left ++ future ≡ stream m others → IsNamed histories t → answer_at m limits left ≡ Ok (a, rest) → has_other_size t a ≡ true → ⊥
+  pub no_other_size : (others : List Given) (left future : List ℕ) (t : Shown) (a : SentAnswer) (rest : List ℕ) → AllByRecursion (IsGenuine m limits histories) others → left ++ future ≡ stream m others → IsPictureNamed histories t → answer_at m limits left ≡ Ok (a, rest) → has_other_size t a ≡ true → ⊥
   no_other_size others left future t a rest each whole named is other =
       let one = first_of others left future a rest each whole is in
       true≢false (sym other ∙ ap (has_other_size t) (sym one.same) ∙ (taken_as m limits histories t one.first named one.genuine).1)
 
 -- what a client makes of a stream whose answers it has taken up to mid
-module _ {W : Type 0} (f : W → List ℕ → ℕ) (histories : ℕ → ℕ → FullScreen) (sent : List Given) (future : List ℕ) (old : ClientValue W) (piece : List ℕ) (laws : Laws (f old.surface.widths) old.limits) (follows : Follows f histories sent old (piece ++ future)) (mid : ClientValue W) (taken_all : HasTaken f (with_bytes old piece) mid) where
+module _ {W : Type 0} (f : W → List ℕ → ℕ) (histories : ℕ → ℕ → FullScreen) (sent : List Given) (future : List ℕ) (old : ClientValue W) (piece : List ℕ) (laws : Laws (f old.surface.widths) old.limits) (follows : ClientFollows f histories sent old (piece ++ future)) (mid : ClientValue W) (taken_all : HasTaken f (with_bytes old piece) mid) where
   abbrev m : List ℕ → ℕ
   m = f old.surface.widths
 
@@ -223,7 +223,7 @@ module _ {W : Type 0} (f : W → List ℕ → ℕ) (histories : ℕ → ℕ → 
   read_same = rw (same, taken_all.settings.limits) refl
 
   stopped_as : (new : ClientValue W) → shown_by new ≡ shown_by mid → HasStopped f histories sent old new
-  stopped_as new same = record { given = it.given; others = it.others; all = it.all; shows = inl (same ∙ it.shows); named = subst (IsNamed histories) (sym same) it.named }
+  stopped_as new same = record { given = it.given; others = it.others; all = it.all; shows = inl (same ∙ it.shows); named = subst (IsPictureNamed histories) (sym same) it.named }
 
   forgotten : (new : ClientValue W) → new.number ≡ 0 → HasStopped f histories sent old new
   forgotten new none = record { given = it.given; others = it.others; all = it.all; shows = inr none; named = record { named = λ some. absurd (some none) } }
@@ -231,7 +231,7 @@ module _ {W : Type 0} (f : W → List ℕ → ℕ) (histories : ℕ → ℕ → 
   cut_same : AreCut (f mid.surface.widths) mid.limits mid.kept → AreCut m old.limits mid.kept
   cut_same cut = record { fault = cut.fault; is = sym read_same ∙ cut.is; cut = cut.cut }
 
-  waits_on : (count : ℕ) → count ≡ length taken_all.given → AreCut (f mid.surface.widths) mid.limits mid.kept → HasFollowed f histories sent future count old mid
+  waits_on : (count : ℕ) → count ≡ length taken_all.given → AreCut (f mid.surface.widths) mid.limits mid.kept → ClientHasFollowed f histories sent future count old mid
   waits_on count all cut = record {
     given = it.given;
     counted = all ∙ sym it.counted;
@@ -243,8 +243,8 @@ module _ {W : Type 0} (f : W → List ℕ → ℕ) (histories : ℕ → ℕ → 
     named = it.named;
   }
 
-  ended : (result : Result ℕ ClientError) (new : ClientValue W) → Ends f mid (length taken_all.given) result new → FollowsTo f histories sent future old result new
-  ended (Ok n) new ends = subst (HasFollowed f histories sent future n old) (sym ends.1.1) (waits_on n ends.0 ends.1.0)
+  ended : (result : Result ℕ ClientError) (new : ClientValue W) → EndsAfter f mid (length taken_all.given) result new → ClientFollowsTo f histories sent future old result new
+  ended (Ok n) new ends = subst (ClientHasFollowed f histories sent future n old) (sym ends.1.1) (waits_on n ends.0 ends.1.0)
   ended (Err (errors.Fault x)) new ends = no_bad m old.limits histories laws it.others mid.kept future x it.genuine it.whole (sym read_same ∙ ends.0) ends.1
   ended (Err (errors.Size at)) new ends = no_other_size m old.limits histories laws it.others mid.kept future (shown_by mid) ends.0 ends.1 it.genuine it.whole it.named (sym read_same ∙ ends.2) ends.3
   ended (Err errors.Numbers) new ends = forgotten new (ap (λ (c : ClientValue W). c.number) ends.4)
@@ -256,16 +256,16 @@ module _ {W : Type 0} (f : W → List ℕ → ℕ) (histories : ℕ → ℕ → 
   some_error : (e : ClientError) → old.stopped ≡ Some e → old.stopped ≡ None → ⊥
   some_error e a b = let bad : Some e ≡ None = sym a ∙ b in cc
 
-  refused : {new : ClientValue W} → shown_by new ≡ shown_by old → IsNamed histories (shown_by old) → HasStopped f histories sent old new
-  refused same named = record { given = []; others = sent; all = refl; shows = inl same; named = subst (IsNamed histories) (sym same) named }
+  refused : {new : ClientValue W} → shown_by new ≡ shown_by old → IsPictureNamed histories (shown_by old) → HasStopped f histories sent old new
+  refused same named = record { given = []; others = sent; all = refl; shows = inl same; named = subst (IsPictureNamed histories) (sym same) named }
 
-  pub follows_to : (result : Result ℕ ClientError) (new : ClientValue W) → Feeds f old piece result new → Follows f histories sent old (piece ++ future) → FollowsTo f histories sent future old result new
+  pub follows_to : (result : Result ℕ ClientError) (new : ClientValue W) → Feeds f old piece result new → ClientFollows f histories sent old (piece ++ future) → ClientFollowsTo f histories sent future old result new
   follows_to result new (inl stopped) follows = absurd (some_error stopped.0 stopped.1 follows.reading)
-  follows_to result new (inr (inl none)) follows = subst (λ (r : Result ℕ ClientError). FollowsTo f histories sent future old r new) (sym none.1) (refused (ap shown_by none.2) follows.named)
+  follows_to result new (inr (inl none)) follows = subst (λ (r : Result ℕ ClientError). ClientFollowsTo f histories sent future old r new) (sym none.1) (refused (ap shown_by none.2) follows.named)
   follows_to result new (inr (inr reads)) follows = ended f histories sent future old piece laws follows reads.1.mid reads.1.has_taken result new reads.1.ends
 
 -- what it makes of the next answer of the bytes that it keeps
-module _ {W : Type 0} (f : W → List ℕ → ℕ) (histories : ℕ → ℕ → FullScreen) (sent : List Given) (future : List ℕ) (old : ClientValue W) (laws : Laws (f old.surface.widths) old.limits) (follows : Follows f histories sent old future) where
+module _ {W : Type 0} (f : W → List ℕ → ℕ) (histories : ℕ → ℕ → FullScreen) (sent : List Given) (future : List ℕ) (old : ClientValue W) (laws : Laws (f old.surface.widths) old.limits) (follows : ClientFollows f histories sent old future) where
   abbrev m_now : List ℕ → ℕ
   m_now = f old.surface.widths
 
@@ -276,7 +276,7 @@ module _ {W : Type 0} (f : W → List ℕ → ℕ) (histories : ℕ → ℕ → 
     as_given : taken m_now (shown_by old) a ≡ after (shown_by old) one.first
     as_given = ap (taken m_now (shown_by old)) (sym one.same) ∙ (taken_as m_now old.limits histories (shown_by old) one.first follows.named one.genuine).0
 
-    abbrev first_taken : IsNamed histories (shown_by new) → HasTakenFirst f histories sent future new
+    abbrev first_taken : IsPictureNamed histories (shown_by new) → HasTakenFirst f histories sent future new
     first_taken named = record {
       first = one.first;
       others = one.others;
@@ -293,20 +293,20 @@ module _ {W : Type 0} (f : W → List ℕ → ℕ) (histories : ℕ → ℕ → 
     taken_next : fits (shown_by old) a ≡ true → shown_by new ≡ taken m_now (shown_by old) a → FollowsNext f histories sent future old (Ok (Some shows.Shown)) new
     taken_next fit is =
         let shown : shown_by new ≡ after (shown_by old) one.first = is ∙ as_given in
-        let named : IsNamed histories (after (shown_by old) one.first) = named_after m_now old.limits histories (shown_by old) one.first follows.named one.genuine in
-        (first_taken (subst (IsNamed histories) (sym shown) named), ap (fits (shown_by old)) one.same ∙ fit, shown)
+        let named : IsPictureNamed histories (after (shown_by old) one.first) = named_after m_now old.limits histories (shown_by old) one.first follows.named one.genuine in
+        (first_taken (subst (IsPictureNamed histories) (sym shown) named), ap (fits (shown_by old)) one.same ∙ fit, shown)
 
     stale_next : (at : ℕ) → fits (shown_by old) a ≡ false → at ≡ stale_place (shown_by old) a → shown_by new ≡ shown_by old → FollowsNext f histories sent future old (Ok (Some (shows.Stale at))) new
     stale_next at unfit place same =
-        (first_taken (subst (IsNamed histories) (sym same) follows.named), ap (fits (shown_by old)) one.same ∙ unfit, place ∙ ap (stale_place (shown_by old)) (sym one.same), same)
+        (first_taken (subst (IsPictureNamed histories) (sym same) follows.named), ap (fits (shown_by old)) one.same ∙ unfit, place ∙ ap (stale_place (shown_by old)) (sym one.same), same)
 
   kept_as : (new : ClientValue W) → shown_by new ≡ shown_by old → HasKept f histories sent old new
-  kept_as new same = record { shows = inl same; named = subst (IsNamed histories) (sym same) follows.named }
+  kept_as new same = record { shows = inl same; named = subst (IsPictureNamed histories) (sym same) follows.named }
 
   kept_none : (new : ClientValue W) → new.number ≡ 0 → HasKept f histories sent old new
   kept_none new none = record { shows = inr none; named = record { named = λ some. absurd (some none) } }
 
-  next_of : (result : Result (Option Taken) ClientError) (new : ClientValue W) → Steps f old result new → FollowsNext f histories sent future old result new
+  next_of : (result : Result (Option Taken) ClientError) (new : ClientValue W) → TakesNextOrNone f old result new → FollowsNext f histories sent future old result new
   next_of (Ok (Some shows.Shown)) new s = taken_next new s.0 s.1 s.5 s.2 s.4
   next_of (Ok (Some (shows.Stale at))) new s =
       let settings : SameSettings old new = record { widths = ap (λ (c : ClientValue W). c.surface.widths) s.4; limits = ap (λ (c : ClientValue W). c.limits) s.4; stopped = ap (λ (c : ClientValue W). c.stopped) s.4 } in
@@ -318,7 +318,7 @@ module _ {W : Type 0} (f : W → List ℕ → ℕ) (histories : ℕ → ℕ → 
   next_of (Err errors.Memory) new (inl s) = kept_as new (ap shown_by s)
   next_of (Err errors.Memory) new (inr s) = kept_none new s.number
 
-  open_next : (result : Result (Option Taken) ClientError) (new : ClientValue W) → TakesNext f old result new → Steps f old result new
+  open_next : (result : Result (Option Taken) ClientError) (new : ClientValue W) → TakesNext f old result new → TakesNextOrNone f old result new
   open_next result new (inl stopped) = absurd (let bad : Some stopped.0 ≡ None = sym stopped.1 ∙ follows.reading in let no_way : ⊥ = cc in no_way)
   open_next result new (inr s) = s.1
 

@@ -3,6 +3,6 @@ pub mod Fed
 pub mod Taking
 pub mod Resumed
 pub mod Served
-mod Unlogged
+mod AddedLists
 pub mod StillServed
 pub mod Answering

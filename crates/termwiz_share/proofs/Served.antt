@@ -16,7 +16,7 @@ use Rattle.termwiz_surface.proofs.Preserving.{same-measure}
 use Rattle.termwiz_surface.proofs.Remembering.{past-first}
 use Rattle.termwiz_wire.specs.Answers.{answer_at}
 use Rattle.termwiz_wire.proofs.Bounds.{past_or_fits}
-use Rattle.termwiz_wire.specs.Within.{IsBeyond, IsWithin}
+use Rattle.termwiz_wire.specs.Within.{IsBeyond, IsWithinLimits}
 use Rattle.termwiz_wire.specs.Sent.{answer}
 use Rattle.termwiz_wire.specs.declared.fault.Fault.{Fault}
 use Rattle.termwiz_wire.specs.declared.fault.Limits.{Limits}
@@ -26,9 +26,9 @@ use Rattle.termwiz_share.specs.declared.error.ClientError.TheVariants as errors
 use Rattle.termwiz_share.specs.declared.taken.Taken.{Taken}
 use Rattle.termwiz_share.specs.declared.taken.Taken.TheVariants as outcomes
 use Rattle.termwiz_share.specs.Client.{ClientValue, IsReady, SameSettings, Shown, ask_of, fits, has_other_size, shown_by, taken}
-use Rattle.termwiz_share.specs.Feeding.{Ends, Feeds, Steps, TakesAll, TakesNext, with_bytes}
-use Rattle.termwiz_share.specs.Histories.{Follows, FollowsNext, FollowsTo, Given, HasFollowed, HasKept, HasMore, HasStopped, IsGenuine, IsNamed, after, after_all, stream}
-use Rattle.termwiz_share.specs.Serving.{KeepsClients, PreservesServing, Serves, Shows}
+use Rattle.termwiz_share.specs.Feeding.{EndsAfter, Feeds, TakesNextOrNone, TakesAll, TakesNext, with_bytes}
+use Rattle.termwiz_share.specs.Histories.{ClientFollows, FollowsNext, ClientFollowsTo, Given, ClientHasFollowed, HasKept, HasMore, HasStopped, IsGenuine, IsPictureNamed, after, after_all, stream}
+use Rattle.termwiz_share.specs.Serving.{KeepsClients, PreservesServing, Serves, ShowsSource}
 use Rattle.termwiz_share.specs.Source.{IsResponse, SourceValue, sent_by, source_of}
 use Rattle.termwiz_wire.specs.MoreBytes.{Laws}
 use Rattle.termwiz_share.proofs.Fed.{follows_next, follows_to, taken_as}
@@ -119,7 +119,7 @@ IsOpen result new = (Unit {0} → OnOk result (new.stopped ≡ None))
 
 -- a client keeps its width value, and takes more bytes after a success
 module _ {W : Type 0} (f : W → List ℕ → ℕ) (old mid : ClientValue W) where
-  ends_settings : (count : ℕ) (result : Result ℕ ClientError) (new : ClientValue W) → mid.surface.widths ≡ old.surface.widths → mid.stopped ≡ None → Ends f mid count result new → (new.surface.widths ≡ old.surface.widths) × IsOpen result new
+  ends_settings : (count : ℕ) (result : Result ℕ ClientError) (new : ClientValue W) → mid.surface.widths ≡ old.surface.widths → mid.stopped ≡ None → EndsAfter f mid count result new → (new.surface.widths ≡ old.surface.widths) × IsOpen result new
   ends_settings count (Ok n) new widths reading ends = (ap (λ (c : ClientValue W). c.surface.widths) ends.1.1 ∙ widths, λ t. ap (λ (c : ClientValue W). c.stopped) ends.1.1 ∙ reading)
   ends_settings count (Err (errors.Fault x)) new widths reading ends = (ap (λ (c : ClientValue W). c.surface.widths) ends.2 ∙ widths, λ t. tt)
   ends_settings count (Err (errors.Size at)) new widths reading ends = (ap (λ (c : ClientValue W). c.surface.widths) ends.5 ∙ widths, λ t. tt)
@@ -140,7 +140,7 @@ module _ {W : Type 0} (f : W → List ℕ → ℕ) (old : ClientValue W) (bytes 
   feeds_open feeds = (feeds_settings feeds).1
 
 -- nor does a step change its width value
-step_widths : {W : Type 0} (f : W → List ℕ → ℕ) (old : ClientValue W) (result : Result (Option Taken) ClientError) (new : ClientValue W) → Steps f old result new → new.surface.widths ≡ old.surface.widths
+step_widths : {W : Type 0} (f : W → List ℕ → ℕ) (old : ClientValue W) (result : Result (Option Taken) ClientError) (new : ClientValue W) → TakesNextOrNone f old result new → new.surface.widths ≡ old.surface.widths
 step_widths f old (Ok (Some outcomes.Shown)) new t = t.5.widths
 step_widths {W = W} f old (Ok (Some (outcomes.Stale at))) new t = ap (λ (c : ClientValue W). c.surface.widths) t.4
 step_widths {W = W} f old (Ok None) new t = ap (λ (c : ClientValue W). c.surface.widths) t.1
@@ -169,7 +169,7 @@ module _ {W : Type 0} (f : W → List ℕ → ℕ) (s : SourceValue W) (c : Clie
   unfolding histories
   own_history = rw (eq-eqb s.number s.number refl) refl
 
-  named : IsNamed histories (shown_by c)
+  named : IsPictureNamed histories (shown_by c)
   unfolding histories
   named = elim (cases_Bool (c.source == s.number)) [
     | inl own ↦ rw own (serves.named (eqb-true c.source s.number own))
@@ -192,7 +192,7 @@ module _ {W : Type 0} (f : W → List ℕ → ℕ) (s : SourceValue W) (c : Clie
   pub names_now : Names serves.past (next_number s.surface.log) (full_of s.surface)
   names_now = rw (← response.number) (response.carries serves.past serves.is_past).named
 
-  shows_after : (new : ClientValue W) → shown_by new ≡ after (shown_by c) g → Shows s new
+  shows_after : (new : ClientValue W) → shown_by new ≡ after (shown_by c) g → ShowsSource s new
   shows_after new is =
       let taken : shown_by new ≡ record { picture = full_of s.surface; source = s.number; number = given.number } = is ∙ rw fits_it refl in
       record { picture = ap (λ (v : Shown). v.picture) taken; source = ap (λ (v : Shown). v.source) taken; number = ap (λ (v : Shown). v.number) taken ∙ response.number }
@@ -201,13 +201,13 @@ module _ {W : Type 0} (f : W → List ℕ → ℕ) (s : SourceValue W) (c : Clie
   pub response_taken : (fits (shown_by c) g.sent ≡ true) × (has_other_size (shown_by c) g.sent ≡ false) × (taken m (shown_by c) g.sent ≡ record { picture = full_of s.surface; source = s.number; number = given.number })
   response_taken =
       let limits : Limits = record { cells = given.width * given.height; rows = given.height; bytes = length (answer m (sent_by s.number given)) } in
-      let fits : IsWithin m limits (sent_by s.number given) = record { screen = record { cells = omega arith; rows = omega arith }; bytes = omega arith; borne = response.borne } in
+      let fits : IsWithinLimits m limits (sent_by s.number given) = record { screen = record { cells = omega arith; rows = omega arith }; bytes = omega arith; borne = response.borne } in
       let genuine : IsGenuine m limits histories g = record { is_sent = rw serves.one_measure response.is_sent; within = fits; sized = response.sized; carries = carries } in
       let given_as = taken_as m limits histories (shown_by c) g named genuine in
       (fits_it, given_as.1, given_as.0 ∙ rw fits_it refl)
 
   -- the limits allow it, or it is past them
-  verdict : (limits : Limits) → IsBeyond m limits (sent_by s.number given) ⊎ IsWithin m limits (sent_by s.number given)
+  verdict : (limits : Limits) → IsBeyond m limits (sent_by s.number given) ⊎ IsWithinLimits m limits (sent_by s.number given)
   verdict limits = elim (past_or_fits limits given.width given.height) [
     | inl many ↦ inl (inl many)
     | inr screen ↦ elim (cases_lt limits.bytes (length (answer m (sent_by s.number given)))) [
@@ -230,11 +230,11 @@ module _ {W : Type 0} (f : W → List ℕ → ℕ) (s : SourceValue W) (c : Clie
     encoded = rw serves.one_measure response.encoded
 
     -- within the limits
-    module _ (allowed : IsWithin m c.limits (sent_by s.number given)) where
+    module _ (allowed : IsWithinLimits m c.limits (sent_by s.number given)) where
       genuine : IsGenuine m c.limits histories g
       genuine = record { is_sent = rw serves.one_measure response.is_sent; within = allowed; sized = response.sized; carries = carries }
 
-      follows : Follows f histories (g ∷ []) c (bytes ++ [])
+      follows : ClientFollows f histories (g ∷ []) c (bytes ++ [])
       follows = record {
         reading = ready.reading;
         genuine = (genuine, tt);
@@ -242,18 +242,18 @@ module _ {W : Type 0} (f : W → List ℕ → ℕ) (s : SourceValue W) (c : Clie
         named = named;
       }
 
-      pub within : (result : Result ℕ ClientError) (new : ClientValue W) → new.surface.widths ≡ c.surface.widths → Feeds f c bytes result new → OnOk result (Shows s new × IsReady new) × Serves f s new
+      pub within : (result : Result ℕ ClientError) (new : ClientValue W) → new.surface.widths ≡ c.surface.widths → Feeds f c bytes result new → OnOk result (ShowsSource s new × IsReady new) × Serves f s new
       within result new widths feeds = by result (follows_to f histories (g ∷ []) [] c bytes laws result new feeds follows) (feeds_open f c bytes result new feeds)
         where
           -- no whole answer is kept
-          whole_kept : (n : ℕ) (h : HasFollowed f histories (g ∷ []) [] n c new) → h.others ≡ g ∷ [] → ⊥
+          whole_kept : (n : ℕ) (h : ClientHasFollowed f histories (g ∷ []) [] n c new) → h.others ≡ g ∷ [] → ⊥
           whole_kept n h all =
               let few : HasMore (f new.surface.widths) (g ∷ []) new.kept = subst (λ (v : List Given). HasMore (f new.surface.widths) v new.kept) all h.no_whole in
               let kept : new.kept ++ [] ≡ answer (f new.surface.widths) g.sent ++ [] = h.left ∙ ap (stream (f new.surface.widths)) all in
               let same : new.kept ≡ answer (f new.surface.widths) g.sent = sym (append-nil new.kept) ∙ kept ∙ append-nil (answer (f new.surface.widths) g.sent) in
               omega (arith, few, ap length same)
 
-          ok_by : (n : ℕ) → HasFollowed f histories (g ∷ []) [] n c new → new.stopped ≡ None → Shows s new × IsReady new
+          ok_by : (n : ℕ) → ClientHasFollowed f histories (g ∷ []) [] n c new → new.stopped ≡ None → ShowsSource s new × IsReady new
           ok_by n h reading = elim (one_of h.given h.others h.all) [
             | inl none ↦ absurd (whole_kept n h none.1)
             | inr all ↦ (shows_after new (h.shows ∙ ap (after_all (shown_by c)) all.0), record { kept = nothing_left new.kept (h.left ∙ ap (stream (f new.surface.widths)) all.1); reading = reading })
@@ -270,7 +270,7 @@ module _ {W : Type 0} (f : W → List ℕ → ℕ) (s : SourceValue W) (c : Clie
             ]
           ]
 
-          by : (result : Result ℕ ClientError) → FollowsTo f histories (g ∷ []) [] c result new → IsOpen result new → OnOk result (Shows s new × IsReady new) × Serves f s new
+          by : (result : Result ℕ ClientError) → ClientFollowsTo f histories (g ∷ []) [] c result new → IsOpen result new → OnOk result (ShowsSource s new × IsReady new) × Serves f s new
           by (Ok n) h reading = let shows = ok_by n h (reading tt) in (shows, serves_shown f s c new serves widths shows.0.picture shows.0.number names_now)
           by (Err errors.Numbers) h reading = (tt, stopped_by h)
           by (Err errors.Memory) h reading = (tt, stopped_by h)
@@ -300,7 +300,7 @@ module _ {W : Type 0} (f : W → List ℕ → ℕ) (s : SourceValue W) (c : Clie
         still : shown_by new ≡ shown_by mid → Serves f s new
         still is = serves_same f s c new serves widths (is ∙ same)
 
-        refused_end : (count : ℕ) (result : Result ℕ ClientError) → Ends f mid count result new → OnOk result (Shows s new × IsReady new) × Serves f s new
+        refused_end : (count : ℕ) (result : Result ℕ ClientError) → EndsAfter f mid count result new → OnOk result (ShowsSource s new × IsReady new) × Serves f s new
         refused_end count (Ok n) ends =
             let x : ends.1.0.fault ≡ refusal.0 = err_is ends.1.0.fault refusal.0 (answer_at m c.limits (c.kept ++ bytes)) (sym read_mid ∙ ends.1.0.is) refusal.1 in
             let bad : Truncated ≡ Limit = sym ends.1.0.cut ∙ ap (λ (v : Fault). v.kind) x ∙ refusal.2 in
@@ -314,7 +314,7 @@ module _ {W : Type 0} (f : W → List ℕ → ℕ) (s : SourceValue W) (c : Clie
       no_stop : (e : ClientError) → c.stopped ≡ Some e → ⊥
       no_stop e is = let bad : Some e ≡ None = sym is ∙ ready.reading in cc
 
-      pub beyond : (result : Result ℕ ClientError) (new : ClientValue W) → new.surface.widths ≡ c.surface.widths → Feeds f c bytes result new → OnOk result (Shows s new × IsReady new) × Serves f s new
+      pub beyond : (result : Result ℕ ClientError) (new : ClientValue W) → new.surface.widths ≡ c.surface.widths → Feeds f c bytes result new → OnOk result (ShowsSource s new × IsReady new) × Serves f s new
       beyond result new widths (inl stopped) = absurd (no_stop stopped.0 stopped.1)
       beyond result new widths (inr (inl none)) = rw none.1 (tt, serves_same f s c new serves widths (ap shown_by none.2))
       beyond result new widths (inr (inr reads)) =
@@ -323,7 +323,7 @@ module _ {W : Type 0} (f : W → List ℕ → ℕ) (s : SourceValue W) (c : Clie
           refused_end reads.1.mid new t.settings none.0 none.1 widths (length t.given) result reads.1.ends
 
     -- a client that takes the response shows what the source shows, and is served by it, also after an error
-    pub responded : (result : Result ℕ ClientError) (new : ClientValue W) → Feeds f c bytes result new → OnOk result (Shows s new × IsReady new) × Serves f s new
+    pub responded : (result : Result ℕ ClientError) (new : ClientValue W) → Feeds f c bytes result new → OnOk result (ShowsSource s new × IsReady new) × Serves f s new
     responded result new feeds =
         let widths = feeds_widths f c bytes result new feeds in
         elim (verdict c.limits) [
@@ -334,17 +334,17 @@ module _ {W : Type 0} (f : W → List ℕ → ℕ) (s : SourceValue W) (c : Clie
   -- one that has it among the bytes that it keeps
   module _ (laws : Laws m c.limits) (reading : c.stopped ≡ None) (kept : c.kept ≡ bytes) where
     abbrev Answered : Result (Option Taken) ClientError → ClientValue W → Type 0
-    Answered result new = OnOk result ((result ≡ Ok (Some outcomes.Shown)) × Shows s new × IsReady new) × Serves f s new
+    Answered result new = OnOk result ((result ≡ Ok (Some outcomes.Shown)) × ShowsSource s new × IsReady new) × Serves f s new
 
     kept_encoded : c.kept ≡ answer m (sent_by s.number given)
     kept_encoded = kept ∙ rw serves.one_measure response.encoded
 
-    open_next : (result : Result (Option Taken) ClientError) (new : ClientValue W) → TakesNext f c result new → Steps f c result new
+    open_next : (result : Result (Option Taken) ClientError) (new : ClientValue W) → TakesNext f c result new → TakesNextOrNone f c result new
     open_next result new (inl stopped) = absurd (let bad : Some stopped.0 ≡ None = sym stopped.1 ∙ reading in let no_way : ⊥ = cc in no_way)
     open_next result new (inr t) = t.1
 
-    module _ (allowed : IsWithin m c.limits (sent_by s.number given)) where
-      follows_kept : Follows f histories (g ∷ []) c []
+    module _ (allowed : IsWithinLimits m c.limits (sent_by s.number given)) where
+      follows_kept : ClientFollows f histories (g ∷ []) c []
       follows_kept = record {
         reading = reading;
         genuine = (record { is_sent = rw serves.one_measure response.is_sent; within = allowed; sized = response.sized; carries = carries }, tt);
@@ -385,7 +385,7 @@ module _ {W : Type 0} (f : W → List ℕ → ℕ) (s : SourceValue W) (c : Clie
       none_kept : (a : SentAnswer) (rest : List ℕ) → answer_at m c.limits c.kept ≡ Ok (a, rest) → ⊥
       none_kept a rest is = ok_or_err (a, rest) kept_refusal.0 (answer_at m c.limits c.kept) is kept_refusal.1
 
-      next_beyond : (result : Result (Option Taken) ClientError) (new : ClientValue W) → Steps f c result new → Answered result new
+      next_beyond : (result : Result (Option Taken) ClientError) (new : ClientValue W) → TakesNextOrNone f c result new → Answered result new
       next_beyond (Ok (Some outcomes.Shown)) new t = absurd (none_kept t.0 new.kept t.1)
       next_beyond (Ok (Some (outcomes.Stale at))) new t = absurd (none_kept t.0 new.kept t.1)
       next_beyond (Ok None) new t =

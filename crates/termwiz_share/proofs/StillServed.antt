@@ -7,7 +7,7 @@ use Rattle.termwiz_screen.specs.Log.{next_number}
 use Rattle.termwiz_surface.specs.History.{Names}
 use Rattle.termwiz_surface.specs.Surface.{full_of}
 use Rattle.termwiz_share.specs.Client.{ClientValue, Shown, fits, shown_by}
-use Rattle.termwiz_share.specs.Histories.{FollowsTo, Given, HasGiven, HasStopped, IsNamed, after, after_all}
+use Rattle.termwiz_share.specs.Histories.{ClientFollowsTo, Given, HasGiven, HasStopped, IsPictureNamed, after, after_all}
 use Rattle.termwiz_share.specs.Serving.{Serves}
 use Rattle.termwiz_share.specs.Source.{SourceValue}
 use Rattle.termwiz_share.specs.declared.error.ClientError.{ClientError}
@@ -39,7 +39,7 @@ module _ {W : Type 0} (f : W → List ℕ → ℕ) (histories : ℕ → ℕ → 
   last = next_number s.surface.log
 
   -- it shows what its number names in the history of the source
-  served_by : NotAhead s.number last (shown_by new) → IsNamed histories (shown_by new) → Serves f s new
+  served_by : NotAhead s.number last (shown_by new) → IsPictureNamed histories (shown_by new) → Serves f s new
   served_by shown named = record {
     past = histories s.number;
     is_past = given.is_past;
@@ -57,7 +57,7 @@ module _ {W : Type 0} (f : W → List ℕ → ℕ) (histories : ℕ → ℕ → 
     | inr none ↦ λ same. omega (arith, none)
   ]) h.named
 
-  pub still_served : (result : Result ℕ ClientError) → FollowsTo f histories sent future old result new → Serves f s new
+  pub still_served : (result : Result ℕ ClientError) → ClientFollowsTo f histories sent future old result new → Serves f s new
   still_served (Ok n) h = served_by (shown_after h.given h.others h.all h.shows) h.named
   still_served (Err errors.Numbers) h = stopped h
   still_served (Err errors.Memory) h = stopped h

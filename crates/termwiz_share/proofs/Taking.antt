@@ -20,7 +20,7 @@ use Rattle.termwiz_surface.specs.Answer.{AnswerValue, is_repaint, suits}
 use Rattle.termwiz_wire.specs.Answers.{answer_at}
 use Rattle.termwiz_wire.specs.declared.sent.SentAnswer.{SentAnswer}
 use Rattle.termwiz_share.specs.Client.{ClientValue, DisplayValue, SameSettings, Shown, blank_screen, display_of, fits, has_other_size, shown_by, taken}
-use Rattle.termwiz_share.specs.Feeding.{AreCut, HasTaken, Reads, Steps, Takes, TakesAll, TakesNext, nameless, read_of, refusal, unnamed}
+use Rattle.termwiz_share.specs.Feeding.{AreCut, HasTaken, TakesWholeOnes, TakesNextOrNone, DisplayTakes, TakesAll, TakesNext, nameless, read_of, refusal, unnamed}
 use Rattle.termwiz_share.specs.Source.{sent_by}
 use Rattle.termwiz_share.specs.declared.error.ClientError.{ClientError}
 use Rattle.termwiz_share.specs.declared.error.ClientError.TheVariants as errors
@@ -67,7 +67,7 @@ module _ {W : Type 0} (f : W → List ℕ → ℕ) where
     pub shows : shown_by new ≡ taken (f old.surface.widths) (shown_by old) sent
     pub settings : SameSettings old new
 
-  pub one_of : (old new : ClientValue W) (t : Taken) → Steps f old (Ok (Some t)) new → HasOne old new
+  pub one_of : (old new : ClientValue W) (t : Taken) → TakesNextOrNone f old (Ok (Some t)) new → HasOne old new
   one_of old new shows.Shown s = record { sent = s.0; read = s.1; size = s.3; shows = s.4; settings = s.5 }
   one_of old new (shows.Stale at) s = record {
     sent = s.0;
@@ -99,7 +99,7 @@ module _ {W : Type 0} (f : W → List ℕ → ℕ) where
   pub counted_none : (c : ClientValue W) → HasCounted c 0 c
   counted_none c = record { has_taken = taken_none c; counted = refl; few = omega arith }
 
-  next_is : (old mid new : ClientValue W) (r : Result (Option Taken) ClientError) → old.stopped ≡ None → HasTaken f old mid → TakesNext f mid r new → Steps f mid r new
+  next_is : (old mid new : ClientValue W) (r : Result (Option Taken) ClientError) → old.stopped ≡ None → HasTaken f old mid → TakesNext f mid r new → TakesNextOrNone f mid r new
   next_is old mid new r reading h (inl t) = absurd (let stopped : mid.stopped ≡ None = h.settings.stopped ∙ reading in let bad : Some t.0 ≡ None = sym t.1 ∙ stopped in let no_way : ⊥ = cc in no_way)
   next_is old mid new r reading h (inr t) = t.1
 
@@ -113,11 +113,11 @@ module _ {W : Type 0} (f : W → List ℕ → ℕ) where
         few = omega (arith, h.few, shorter);
       }
 
-  pub reads_all : (old mid new : ClientValue W) (count : ℕ) (o : Option Taken) → old.stopped ≡ None → HasCounted old count mid → TakesNext f mid (Ok o) new → (b : Bool) → b ≡ is_some o → b ≡ false → Reads f old (Ok count) new
+  pub reads_all : (old mid new : ClientValue W) (count : ℕ) (o : Option Taken) → old.stopped ≡ None → HasCounted old count mid → TakesNext f mid (Ok o) new → (b : Bool) → b ≡ is_some o → b ≡ false → TakesWholeOnes f old (Ok count) new
   reads_all old mid new count (Some x) reading h t b is none = absurd (true≢false (sym is ∙ none))
   reads_all old mid new count None reading h t b is none = record { mid = mid; has_taken = h.has_taken; ends = (h.counted, next_is old mid new (Ok None) reading h.has_taken t) }
 
-  pub reads_some : (old mid new : ClientValue W) (count : ℕ) (e : ClientError) → old.stopped ≡ None → HasCounted old count mid → TakesNext f mid (Err e) new → Reads f old (Err e) new
+  pub reads_some : (old mid new : ClientValue W) (count : ℕ) (e : ClientError) → old.stopped ≡ None → HasCounted old count mid → TakesNext f mid (Err e) new → TakesWholeOnes f old (Err e) new
   reads_some old mid new count e reading h t = record { mid = mid; has_taken = h.has_taken; ends = next_is old mid new (Err e) reading h.has_taken t }
 
 -- each answer has a byte
@@ -165,7 +165,7 @@ same_left {W = W} old new shown limits stopped =
     rw (← surface, ← source, ← number, ← limits, ← stopped) refl
 
 -- an answer that is not taken stops the client before it
-pub takes_stop : {W : Type 0} (f : W → List ℕ → ℕ) (old : ClientValue W) (a : SentAnswer) (rest : List ℕ) (e : ClientError) (new : ClientValue W) → read_of f old ≡ Ok (a, rest) → Takes f (display_of old) a (Err e) (display_of new) → new.kept ≡ old.kept → new.limits ≡ old.limits → new.stopped ≡ refusal old.stopped e → Steps f old (Err e) new
+pub takes_stop : {W : Type 0} (f : W → List ℕ → ℕ) (old : ClientValue W) (a : SentAnswer) (rest : List ℕ) (e : ClientError) (new : ClientValue W) → read_of f old ≡ Ok (a, rest) → DisplayTakes f (display_of old) a (Err e) (display_of new) → new.kept ≡ old.kept → new.limits ≡ old.limits → new.stopped ≡ refusal old.stopped e → TakesNextOrNone f old (Err e) new
 takes_stop f old a rest (errors.Fault x) new is t kept limits stopped = absurd t
 takes_stop f old a rest (errors.Size at) new is t kept limits stopped = (a, rest, is, t.0, t.1, same_but old new (Some (errors.Size at)) t.2 kept limits stopped)
 takes_stop f old a rest errors.Numbers new is t kept limits stopped = (a, rest, is, t.0, unnamed_is old new t.1 kept limits stopped)
@@ -173,7 +173,7 @@ takes_stop f old a rest errors.Memory new is (inl same) kept limits stopped = in
 takes_stop f old a rest errors.Memory new is (inr t) kept limits stopped = inr (record { source = t.source; number = t.number; kept = kept; settings = record { widths = t.widths; limits = limits; stopped = stopped } })
 
 -- an answer that is taken is the next step
-pub takes_step : {W : Type 0} (f : W → List ℕ → ℕ) (old new : ClientValue W) (a : SentAnswer) (t : Taken) → read_of f old ≡ Ok (a, new.kept) → Takes f (display_of old) a (Ok t) (display_of new) → new.limits ≡ old.limits → new.stopped ≡ old.stopped → Steps f old (Ok (Some t)) new
+pub takes_step : {W : Type 0} (f : W → List ℕ → ℕ) (old new : ClientValue W) (a : SentAnswer) (t : Taken) → read_of f old ≡ Ok (a, new.kept) → DisplayTakes f (display_of old) a (Ok t) (display_of new) → new.limits ≡ old.limits → new.stopped ≡ old.stopped → TakesNextOrNone f old (Ok (Some t)) new
 takes_step f old new a shows.Shown is t limits stopped = (a, is, t.0, t.1, t.2, record { widths = t.3; limits = limits; stopped = stopped })
 takes_step f old new a (shows.Stale at) is t limits stopped = (a, is, t.0, t.1, same_left old new t.2 limits stopped)
 

@@ -66,10 +66,10 @@ module _ {W : Type 0} where
   with_bytes c piece = record c { kept = c.kept ++ piece }
 
   -- bytes are kept, or it takes none: it has stopped before, or stops for want of memory
-  abbrev pub Keeps :
+  abbrev pub KeepsPiece :
       ClientValue W → List ℕ → Result (Unit {0}) ClientError → ClientValue W → Type 0
-  Keeps old piece (Ok u) new = (old.stopped ≡ None) × (new ≡ with_bytes old piece)
-  Keeps old piece (Err e) new =
+  KeepsPiece old piece (Ok u) new = (old.stopped ≡ None) × (new ≡ with_bytes old piece)
+  KeepsPiece old piece (Err e) new =
       ((old.stopped ≡ Some e) × (new ≡ old)) ⊎
       ((old.stopped ≡ None) × (e ≡ errors.Memory) × (new ≡ stopped_by old errors.Memory))
 
@@ -104,48 +104,48 @@ module _ {W : Type 0} where
 
   module _ (measure_of : W → List ℕ → ℕ) where
     -- a display takes an answer, or leaves one that doesn't fit
-    abbrev pub Takes :
+    abbrev pub DisplayTakes :
         DisplayValue W → SentAnswer → Result Taken ClientError → DisplayValue W → Type 0
-    Takes old a (Ok shows.Shown) new =
+    DisplayTakes old a (Ok shows.Shown) new =
         (fits (shown_on old) a ≡ true) × (has_other_size (shown_on old) a ≡ false) ×
         (shown_on new ≡ taken (measure_of old.surface.widths) (shown_on old) a) ×
         (new.surface.widths ≡ old.surface.widths)
-    Takes old a (Ok (shows.Stale at)) new =
+    DisplayTakes old a (Ok (shows.Stale at)) new =
         (fits (shown_on old) a ≡ false) × (at ≡ stale_place (shown_on old) a) × (new ≡ old)
-    Takes old a (Err (errors.Fault f)) new = ⊥
-    Takes old a (Err (errors.Size at)) new =
+    DisplayTakes old a (Err (errors.Fault f)) new = ⊥
+    DisplayTakes old a (Err (errors.Size at)) new =
         (has_other_size (shown_on old) a ≡ true) × (at ≡ size_place (shown_on old) a) × (new ≡ old)
-    Takes old a (Err errors.Numbers) new = LacksNumbers old a × (new ≡ nameless old)
-    Takes old a (Err errors.Memory) new = (new ≡ old) ⊎ IsNameless old new
+    DisplayTakes old a (Err errors.Numbers) new = LacksNumbers old a × (new ≡ nameless old)
+    DisplayTakes old a (Err errors.Memory) new = (new ≡ old) ⊎ IsNameless old new
 
     -- what its bytes begin with
     abbrev pub read_of : ClientValue W → Result (SentAnswer × List ℕ) Fault
     read_of c = answer_at (measure_of c.surface.widths) c.limits c.kept
 
     -- the client takes the next answer, or leaves one that doesn't fit, or there is none
-    abbrev pub Steps :
+    abbrev pub TakesNextOrNone :
         ClientValue W → Result (Option Taken) ClientError → ClientValue W → Type 0
-    Steps old (Ok (Some shows.Shown)) new =
+    TakesNextOrNone old (Ok (Some shows.Shown)) new =
         (a : SentAnswer) × (read_of old ≡ Ok (a, new.kept)) × (fits (shown_by old) a ≡ true) ×
         (has_other_size (shown_by old) a ≡ false) ×
         (shown_by new ≡ taken (measure_of old.surface.widths) (shown_by old) a) ×
         SameSettings old new
-    Steps old (Ok (Some (shows.Stale at))) new =
+    TakesNextOrNone old (Ok (Some (shows.Stale at))) new =
         (a : SentAnswer) × (read_of old ≡ Ok (a, new.kept)) × (fits (shown_by old) a ≡ false) ×
         (at ≡ stale_place (shown_by old) a) × (new ≡ record old { kept = new.kept })
-    Steps old (Ok None) new =
+    TakesNextOrNone old (Ok None) new =
         AreCut (measure_of old.surface.widths) old.limits old.kept × (new ≡ old)
-    Steps old (Err (errors.Fault f)) new =
+    TakesNextOrNone old (Err (errors.Fault f)) new =
         (read_of old ≡ Err f) × (f.kind ≢ Truncated) × (new ≡ stopped_by old (errors.Fault f))
-    Steps old (Err (errors.Size at)) new =
+    TakesNextOrNone old (Err (errors.Size at)) new =
         (a : SentAnswer) × (rest : List ℕ) × (read_of old ≡ Ok (a, rest)) ×
         (has_other_size (shown_by old) a ≡ true) × (at ≡ size_place (shown_by old) a) ×
         (new ≡ stopped_by old (errors.Size at))
-    Steps old (Err errors.Numbers) new =
+    TakesNextOrNone old (Err errors.Numbers) new =
         (a : SentAnswer) × (rest : List ℕ) × (read_of old ≡ Ok (a, rest)) ×
         LacksNumbers (display_of old) a ×
         (new ≡ unnamed old)
-    Steps old (Err errors.Memory) new = (new ≡ old) ⊎ HasForgotten old new
+    TakesNextOrNone old (Err errors.Memory) new = (new ≡ old) ⊎ HasForgotten old new
 
     -- it has taken the answers of its bytes, up to those that are left
     pub record HasTaken (old new : ClientValue W) : Type 0 where
@@ -156,16 +156,16 @@ module _ {W : Type 0} where
       pub settings : SameSettings old new
 
     -- how it ends after `count` answers, where there is no next one, or that isn't taken
-    abbrev pub Ends : ClientValue W → ℕ → Result ℕ ClientError → ClientValue W → Type 0
-    Ends old count (Ok n) new = (n ≡ count) × Steps old (Ok None) new
-    Ends old count (Err e) new = Steps old (Err e) new
+    abbrev pub EndsAfter : ClientValue W → ℕ → Result ℕ ClientError → ClientValue W → Type 0
+    EndsAfter old count (Ok n) new = (n ≡ count) × TakesNextOrNone old (Ok None) new
+    EndsAfter old count (Err e) new = TakesNextOrNone old (Err e) new
 
     -- it takes all answers of its bytes, or stops before one
-    pub record Reads (old : ClientValue W) (result : Result ℕ ClientError) (new : ClientValue W) :
+    pub record TakesWholeOnes (old : ClientValue W) (result : Result ℕ ClientError) (new : ClientValue W) :
         Type 0 where
       pub mid : ClientValue W
       pub has_taken : HasTaken old mid
-      pub ends : Ends mid (length has_taken.given) result new
+      pub ends : EndsAfter mid (length has_taken.given) result new
 
     -- bytes are fed to the client
     abbrev pub Feeds : ClientValue W → List ℕ → Result ℕ ClientError → ClientValue W → Type 0
@@ -177,7 +177,7 @@ module _ {W : Type 0} where
         ((old.stopped ≡ None) × (result ≡ Err errors.Memory) ×
         (new ≡ stopped_by old errors.Memory))
         -- or it reads them
-        ⊎ ((old.stopped ≡ None) × Reads (with_bytes old piece) result new)
+        ⊎ ((old.stopped ≡ None) × TakesWholeOnes (with_bytes old piece) result new)
 
     -- the client takes at most one answer of the bytes that it keeps
     abbrev pub TakesNext :
@@ -186,7 +186,7 @@ module _ {W : Type 0} where
         -- it takes none, since it has stopped before
         ((e : ClientError) × (old.stopped ≡ Some e) × (result ≡ Err e) × (new ≡ old))
         -- or it reads them
-        ⊎ ((old.stopped ≡ None) × Steps old result new)
+        ⊎ ((old.stopped ≡ None) × TakesNextOrNone old result new)
 
     -- what comes of a stream that ends here: the client keeps nothing, or a whole answer, or the
     -- bytes make none

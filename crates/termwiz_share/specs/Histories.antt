@@ -9,7 +9,7 @@ use Rattle.termwiz_surface.specs.Answer.{Carries}
 use Rattle.termwiz_surface.specs.Carried.{IsPastOf}
 use Rattle.termwiz_surface.specs.History.{Names}
 use Rattle.termwiz_wire.specs.Sent.{IsSent, answer}
-use Rattle.termwiz_wire.specs.Within.{IsWithin}
+use Rattle.termwiz_wire.specs.Within.{IsWithinLimits}
 use Rattle.termwiz_wire.specs.declared.fault.Limits.{Limits}
 use Rattle.termwiz_wire.specs.declared.sent.SentAnswer.{SentAnswer}
 use Rattle.termwiz_share.specs.Client.{ClientValue, Shown, fits, shown_by, stale_place}
@@ -50,26 +50,26 @@ module _ (measure : List ℕ → ℕ) where
     -- screen; and it is within the limits
     pub record IsGenuine (g : Given) : Type 0 where
       pub is_sent : IsSent measure g.sent
-      pub within : IsWithin measure limits g.sent
+      pub within : IsWithinLimits measure limits g.sent
       pub sized : HasFullSize g.sent.answer.width g.sent.answer.height g.shown
       pub carries : Carries full_screens measure (histories g.sent.source) g.sent.answer g.shown
 
 -- what is shown is what its number names in the history of its source
-abbrev pub IsNamed : (ℕ → ℕ → FullScreen) → Shown → Type 0
-IsNamed histories s = Names (histories s.source) s.number s.picture
+abbrev pub IsPictureNamed : (ℕ → ℕ → FullScreen) → Shown → Type 0
+IsPictureNamed histories s = Names (histories s.source) s.number s.picture
 
 module _ {W : Type 0} (measure_of : W → List ℕ → ℕ) (histories : ℕ → ℕ → FullScreen)
     (sent : List Given) where
   -- what a client has and the bytes that come are these answers, and it shows what its number names
-  pub record Follows (c : ClientValue W) (bytes : List ℕ) : Type 0 where
+  pub record ClientFollows (c : ClientValue W) (bytes : List ℕ) : Type 0 where
     pub reading : c.stopped ≡ None
     pub genuine : AllByRecursion (IsGenuine (measure_of c.surface.widths) c.limits histories) sent
     pub whole : c.kept ++ bytes ≡ stream (measure_of c.surface.widths) sent
-    pub named : IsNamed histories (shown_by c)
+    pub named : IsPictureNamed histories (shown_by c)
 
   -- `count` answers are taken, and the client shows what the last one that fits was given for; of
   -- the others there is no whole one
-  pub record HasFollowed (future : List ℕ) (count : ℕ) (old new : ClientValue W) : Type 0 where
+  pub record ClientHasFollowed (future : List ℕ) (count : ℕ) (old new : ClientValue W) : Type 0 where
     pub given : List Given
     pub counted : count ≡ length given
     pub others : List Given
@@ -77,7 +77,7 @@ module _ {W : Type 0} (measure_of : W → List ℕ → ℕ) (histories : ℕ →
     pub left : new.kept ++ future ≡ stream (measure_of new.surface.widths) others
     pub no_whole : HasMore (measure_of new.surface.widths) others new.kept
     pub shows : shown_by new ≡ after_all (shown_by old) given
-    pub named : IsNamed histories (shown_by new)
+    pub named : IsPictureNamed histories (shown_by new)
 
   -- some answers are taken, and the client shows what the last one that fits was given for, or what
   -- it shows has no number
@@ -86,14 +86,14 @@ module _ {W : Type 0} (measure_of : W → List ℕ → ℕ) (histories : ℕ →
     pub others : List Given
     pub all : sent ≡ given ++ others
     pub shows : (shown_by new ≡ after_all (shown_by old) given) ⊎ (new.number ≡ 0)
-    pub named : IsNamed histories (shown_by new)
+    pub named : IsPictureNamed histories (shown_by new)
 
   -- nothing but want of memory or of numbers keeps it from taking all that are whole
-  abbrev pub FollowsTo : List ℕ → ClientValue W → Result ℕ ClientError → ClientValue W → Type 0
-  FollowsTo future old (Ok n) new = HasFollowed future n old new
-  FollowsTo future old (Err errors.Numbers) new = HasStopped old new
-  FollowsTo future old (Err errors.Memory) new = HasStopped old new
-  FollowsTo future old (Err _) new = ⊥
+  abbrev pub ClientFollowsTo : List ℕ → ClientValue W → Result ℕ ClientError → ClientValue W → Type 0
+  ClientFollowsTo future old (Ok n) new = ClientHasFollowed future n old new
+  ClientFollowsTo future old (Err errors.Numbers) new = HasStopped old new
+  ClientFollowsTo future old (Err errors.Memory) new = HasStopped old new
+  ClientFollowsTo future old (Err _) new = ⊥
 
 -- a source whose numbers name this history, and which gave those of these answers that are of it
 pub record HasGiven {W : Type 0} (measure_of : W → List ℕ → ℕ) (histories : ℕ → ℕ → FullScreen)
@@ -113,12 +113,12 @@ module _ {W : Type 0} (measure_of : W → List ℕ → ℕ) (histories : ℕ →
     pub first : Given
     pub others : List Given
     pub all : sent ≡ first ∷ others
-    pub follows : Follows measure_of histories others new future
+    pub follows : ClientFollows measure_of histories others new future
 
   -- it shows what it showed, or what it shows has no number
   pub record HasKept (old new : ClientValue W) : Type 0 where
     pub shows : (shown_by new ≡ shown_by old) ⊎ (new.number ≡ 0)
-    pub named : IsNamed histories (shown_by new)
+    pub named : IsPictureNamed histories (shown_by new)
 
   -- the next answer shows what it was given for, or doesn't fit, or isn't whole; and nothing but
   -- want of memory or of numbers keeps it from being taken

@@ -13,12 +13,11 @@ pub use Rattle.termwiz_screen.specs.Log.{flushed, next_number}
 pub use Rattle.termwiz_surface.specs.Adding.{Adds, with_log}
 pub use Rattle.termwiz_surface.specs.Answer.{is_repaint, suits}
 pub use Rattle.termwiz_surface.specs.Copies.{IsCopied, IsDrawn, copied_region, region_at, whole_at}
-pub use Rattle.termwiz_surface.specs.Unlogged.{AddsUnlogged, lent_value}
+pub use Rattle.termwiz_surface.specs.ChangeLists.{AddsList, change_list}
 pub use Rattle.termwiz_surface.specs.Diffs.{HasCopied, HasDrawn}
 pub use Rattle.termwiz_surface.specs.Resizing.{Resizes}
 pub use Rattle.termwiz_surface.specs.RowNumbers.{NumbersRows}
 pub use Rattle.termwiz_surface.specs.ScrolledOff.{AddsScrolledOff, rows_scrolled_off}
-pub use Rattle.termwiz_surface.specs.Scrollback.{spare_lines}
 pub use Rattle.termwiz_surface.specs.Surface.{IsSurfaceSize, SurfaceValue, blank_surface, kept_of, screen_of}
 pub use Rattle.termwiz_surface.specs.declared.surface.SurfaceError.TheVariants.{ScrollRegion}
 pub use Rattle.termwiz_wire.specs.Answers.{answer_at}
@@ -28,6 +27,6 @@ pub use Rattle.termwiz_wire.specs.declared.fault.Fault.{Fault}
 pub use Rattle.termwiz_share.specs.Source.{IsResponse, PutsAnswer, PutsDelta, Responds, IsWritten, SourceValue, bytes_of, most_bytes, number_asked, repaint_of, response_bytes, sent_by, source_of, trimmed}
 pub use Rattle.termwiz_share.specs.Responses.{HasResponses, chosen, delta_part}
 pub use Rattle.termwiz_share.specs.Client.{ClientValue, DisplayValue, IsReady, ask_of, fits, shown_by, shown_on, size_place, stale_place}
-pub use Rattle.termwiz_share.specs.Feeding.{DecodesNext, EndsHere, Feeds, HasBegunNext, Keeps, Reads, Steps, Takes, TakesNext, nameless, refusal}
-pub use Rattle.termwiz_share.specs.Histories.{Follows, FollowsNext, FollowsTo, Given, HasGiven}
-pub use Rattle.termwiz_share.specs.Serving.{PreservesServing, KeepsSources, Serves, Shows}
+pub use Rattle.termwiz_share.specs.Feeding.{DecodesNext, EndsHere, Feeds, HasBegunNext, KeepsPiece, TakesWholeOnes, TakesNextOrNone, DisplayTakes, TakesNext, nameless, refusal}
+pub use Rattle.termwiz_share.specs.Histories.{ClientFollows, FollowsNext, ClientFollowsTo, Given, HasGiven}
+pub use Rattle.termwiz_share.specs.Serving.{PreservesServing, KeepsSources, Serves, ShowsSource}

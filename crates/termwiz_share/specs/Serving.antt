@@ -11,7 +11,7 @@ use Rattle.termwiz_share.specs.Client.{ClientValue}
 use Rattle.termwiz_share.specs.Source.{SourceValue}
 
 -- the client shows what the source shows, with its number
-pub record Shows {W : Type 0} (s : SourceValue W) (c : ClientValue W) : Type 0 where
+pub record ShowsSource {W : Type 0} (s : SourceValue W) (c : ClientValue W) : Type 0 where
   pub picture : full_of c.surface ≡ full_of s.surface
   pub source : c.source ≡ s.number
   pub number : c.number ≡ next_number s.surface.log

@@ -2,11 +2,11 @@
 ghost use Rattle.std.specs.Prelude.{◌≡◌, ◌<◌, ◌≤◌, ◌^◌, ◌++◌, [], IfOk, IfSome, IsSome, List, None};
 ghost use Rattle.std.specs.Prelude.{Ok, OnErr, OnOk, Some, drop, length, ℕ};
 ghost use Rattle.termwiz_wire.specs.Resuming.{LeadsOn};
-ghost use Rattle.termwiz_share.specs.{ClientValue, EndsHere, Feeds, Follows, FollowsNext};
-ghost use Rattle.termwiz_share.specs.{FollowsTo, FullScreen, Given, HasGiven, IsAsk, IsReady};
-ghost use Rattle.termwiz_share.specs.{DecodesNext, HasBegunNext, IsResponse, IsSurfaceSize, Keeps};
-ghost use Rattle.termwiz_share.specs.{KeepsSources, NumbersRows, Reads, Serves, Shows};
-ghost use Rattle.termwiz_share.specs.{SourceValue, Steps, TakesNext};
+ghost use Rattle.termwiz_share.specs.{ClientValue, EndsHere, Feeds, ClientFollows, FollowsNext};
+ghost use Rattle.termwiz_share.specs.{ClientFollowsTo, FullScreen, Given, HasGiven, IsAsk, IsReady};
+ghost use Rattle.termwiz_share.specs.{DecodesNext, HasBegunNext, IsResponse, IsSurfaceSize, KeepsPiece};
+ghost use Rattle.termwiz_share.specs.{KeepsSources, NumbersRows, TakesWholeOnes, Serves, ShowsSource};
+ghost use Rattle.termwiz_share.specs.{SourceValue, TakesNextOrNone, TakesNext};
 ghost use Rattle.termwiz_share.specs.{ask, ask_of, blank_surface, measure, refusal, true};
 
 mod display;
@@ -171,13 +171,13 @@ impl<W: Widths> Client<W> {
         // Of a stream of answers, of any sources and in any order, it shows what the last one that
         // fits was given for, and fails for want of memory or of numbers alone.
         ensures follows { (histories : ℕ → ℕ → FullScreen) (sent : List Given) (future : List ℕ) →
-            Follows (measure W.width_of) histories sent self.old (piece.now ++ future) →
-            FollowsTo (measure W.width_of) histories sent future self.old result self.new }
+            ClientFollows (measure W.width_of) histories sent self.old (piece.now ++ future) →
+            ClientFollowsTo (measure W.width_of) histories sent future self.old result self.new }
         // Of such a stream, whole or cut or late, it is served by the sources that gave the
         // answers, after an error too.
         ensures served { (histories : ℕ → ℕ → FullScreen) (sent : List Given) (future : List ℕ)
             (source : SourceValue W) →
-            Follows (measure W.width_of) histories sent self.old (piece.now ++ future) →
+            ClientFollows (measure W.width_of) histories sent self.old (piece.now ++ future) →
             HasGiven (measure W.width_of) histories sent source →
             Serves (measure W.width_of) source self.old →
             Serves (measure W.width_of) source self.new }
@@ -185,7 +185,7 @@ impl<W: Widths> Client<W> {
         ensures shows { (source : SourceValue W) → Serves (measure W.width_of) source self.old →
             IsReady self.old →
             IsResponse (measure W.width_of) source (ask_of self.old) piece.now →
-            OnOk result (Shows source self.new × IsReady self.new) }
+            OnOk result (ShowsSource source self.new × IsReady self.new) }
         // and is served by it still, also after an error.
         ensures serves { (source : SourceValue W) → Serves (measure W.width_of) source self.old →
             IsReady self.old →
@@ -202,11 +202,11 @@ impl<W: Widths> Client<W> {
     /// Keeps the next bytes of the stream after those that it has, and takes no answer. Where
     /// memory is refused it takes no more bytes, until `reset`.
     pub fn keep(&mut self, piece: &[u8]) -> Result<(), ClientError>
-        ensures keeps { Keeps self.old piece.now result self.new }
+        ensures keeps { KeepsPiece self.old piece.now result self.new }
         // The stream that it follows goes on after them.
         ensures follows { (histories : ℕ → ℕ → FullScreen) (sent : List Given) (future : List ℕ) →
-            Follows (measure W.width_of) histories sent self.old (piece.now ++ future) →
-            OnOk result (Follows (measure W.width_of) histories sent self.new future) }
+            ClientFollows (measure W.width_of) histories sent self.old (piece.now ++ future) →
+            OnOk result (ClientFollows (measure W.width_of) histories sent self.new future) }
         // Memory has them, and the limits allow some.
         ensures few { OnOk result (length self.new.kept < 2 ^ 64) }
         ensures some { 0 < self.old.limits.bytes }
@@ -232,13 +232,13 @@ impl<W: Widths> Client<W> {
         // Of a stream of answers it takes the next one, and fails for want of memory or of numbers
         // alone.
         ensures follows { (histories : ℕ → ℕ → FullScreen) (sent : List Given) (future : List ℕ) →
-            Follows (measure W.width_of) histories sent self.old future →
+            ClientFollows (measure W.width_of) histories sent self.old future →
             FollowsNext (measure W.width_of) histories sent future self.old result self.new }
         // A client that has the response to its ask shows what the source shows,
         ensures shows { (source : SourceValue W) → Serves (measure W.width_of) source self.old →
             self.old.stopped ≡ None →
             IsResponse (measure W.width_of) source (ask_of self.old) self.old.kept →
-            OnOk result ((result ≡ Ok (Some Taken.Shown)) × Shows source self.new × IsReady self.new) }
+            OnOk result ((result ≡ Ok (Some Taken.Shown)) × ShowsSource source self.new × IsReady self.new) }
         // and is served by it still, also after an error.
         ensures serves { (source : SourceValue W) → Serves (measure W.width_of) source self.old →
             self.old.stopped ≡ None →
@@ -277,7 +277,7 @@ impl<W: Widths> Client<W> {
 
     // Takes the next answer, if there is a whole one.
     fn take_next(&mut self) -> Result<Option<Taken>, ClientError>
-        ensures steps { Steps (measure W.width_of) self.old result self.new }
+        ensures steps { TakesNextOrNone (measure W.width_of) self.old result self.new }
         ensures shorter { IfOk result (λ taken. IsSome taken →
             length self.new.kept < length self.old.kept) }
         ensures numbered { NumbersRows self.old.surface self.new.surface }
@@ -313,7 +313,7 @@ impl<W: Widths> Client<W> {
     fn take_all(&mut self) -> Result<usize, ClientError>
         requires reading { self.old.stopped ≡ None }
         requires few { length self.old.kept < 2 ^ 64 }
-        ensures reads { Reads (measure W.width_of) self.old result self.new }
+        ensures reads { TakesWholeOnes (measure W.width_of) self.old result self.new }
         ensures numbered { NumbersRows self.old.surface self.new.surface }
     {
         let mut count = 0;

@@ -1,15 +1,15 @@
 //! Sources: full surfaces whose answers name them.
 ghost use Rattle.std.specs.Prelude.{◌≡◌, ◌≢◌, ◌+◌, ◌-◌, ◌<◌, ◌≤◌, ◌^◌, ◌∷◌, ◌++◌, [], Err, IfOk};
-ghost use Rattle.std.specs.Prelude.{List, OnErr, OnOk, ℕ, min, vec_len};
-ghost use Rattle.termwiz_share.specs.{Adds, AddsScrolledOff, AddsUnlogged, ClientValue};
+ghost use Rattle.std.specs.Prelude.{IsTrue, List, OnErr, OnOk, ℕ, min, vec_len};
+ghost use Rattle.termwiz_share.specs.{Adds, AddsList, AddsScrolledOff, ClientValue};
 ghost use Rattle.termwiz_share.specs.{HasCopied, HasDrawn, IsCopied, IsDrawn, region_at};
 ghost use Rattle.termwiz_share.specs.{IsResponse, IsWritten, number_asked};
 ghost use Rattle.termwiz_share.specs.{IsSurfaceSize, PreservesServing};
 ghost use Rattle.termwiz_share.specs.{Resizes, Responds, ScrollRegion, Serves, SourceValue};
-ghost use Rattle.termwiz_share.specs.{blank_surface, flushed, lent_value};
+ghost use Rattle.termwiz_share.specs.{blank_surface, change_list, flushed};
 ghost use Rattle.termwiz_share.specs.{change_value, copied_region, length, map, measure};
 ghost use Rattle.termwiz_share.specs.{next_number, response_bytes};
-ghost use Rattle.termwiz_share.specs.{kept_of, rows_scrolled_off, screen_of, spare_lines, trimmed};
+ghost use Rattle.termwiz_share.specs.{kept_of, rows_scrolled_off, screen_of, trimmed};
 ghost use Rattle.termwiz_share.specs.{true, whole_at, with_log};
 
 use crate::responses::Responses;
@@ -17,7 +17,7 @@ use std::alloc::{AllocError, Global};
 use std::marker::Model;
 use termwiz_cell::change::{Change, SEQ_ZERO, SequenceNo};
 use termwiz_cell::emoji::Widths;
-use termwiz_surface::{LentChange, Scrollback, Surface, SurfaceError};
+use termwiz_surface::{ChangeList, LineSink, NoScrollback, Surface, SurfaceError};
 use termwiz_wire::{Ask, SourceNo};
 
 /// A full surface that clients show, with a number that names it among all sources that a client
@@ -114,89 +114,33 @@ impl<W: Widths> Source<W> {
         // Clients, viewers, numbers and rows hold, even after an error.
         ensures preserves { PreservesServing (measure W.width_of) self.old self.new }
     {
-        self.responses.clear();
-        self.surface.forget_unneeded();
-        self.surface.add_changes(changes)
+        self.add(ChangeList::Owned(changes), &mut NoScrollback)
     }
 
-    /// Applies the changes in order, and moves the lines that they scroll off the top of the screen
-    /// to the end of a scrollback, as `Surface::add_changes_scrolling` does.
-    pub fn add_changes_scrolling(
+    /// Applies the changes of a list in order, and logs them, or not, as the list says. The lines
+    /// that they scroll off the top of the screen go to `lines`, as `Surface::add` says.
+    pub fn add<L: LineSink>(
         &mut self,
-        changes: Vec<Change>,
-        scrollback: &mut Scrollback,
+        list: ChangeList<'_>,
+        lines: &mut L,
     ) -> Result<SequenceNo, SurfaceError>
-        ensures adds { Adds (measure W.width_of self.old.surface.widths)
-            (trimmed self.old.surface) (map change_value changes.items)
-            (next_number (trimmed self.old.surface).log - 1 + vec_len changes)
+        ensures adds { AddsList (measure W.width_of self.old.surface.widths)
+            (trimmed self.old.surface) list.entry
+            (next_number (trimmed self.old.surface).log - 1 + length (change_list list.entry))
             result self.new.surface }
         // The lines that scroll off are added, as they were shown. The old ones stay, even after an
         // error.
-        ensures scrolled { AddsScrolledOff self.old.surface.width
+        ensures scrolled { IsTrue L.KEEPS → AddsScrolledOff self.old.surface.width
             (rows_scrolled_off (measure W.width_of self.old.surface.widths)
-            (screen_of self.old.surface) (kept_of self.old.surface)
-            (map change_value changes.items))
-            result scrollback.old.lines.items scrollback.new.lines.items }
-        ensures spare { spare_lines scrollback.new ≤ spare_lines scrollback.old }
+            (screen_of self.old.surface) (kept_of self.old.surface) (change_list list.entry))
+            result (L.lines_of lines.old) (L.lines_of lines.new) }
+        ensures spare { L.spare_of lines.new ≤ L.spare_of lines.old }
         // Clients, viewers, numbers and rows hold, even after an error.
         ensures preserves { PreservesServing (measure W.width_of) self.old self.new }
     {
         self.responses.clear();
         self.surface.forget_unneeded();
-        self.surface.add_changes_scrolling(changes, scrollback)
-    }
-
-    /// Applies borrowed changes in order, of which it logs copies, as `Surface::add_lent_changes`
-    /// does.
-    pub fn add_lent_changes(&mut self, changes: &[Change]) -> Result<SequenceNo, SurfaceError>
-        ensures adds { Adds (measure W.width_of self.old.surface.widths)
-            (trimmed self.old.surface) (map change_value changes.now)
-            (next_number (trimmed self.old.surface).log - 1 + length changes.now)
-            result self.new.surface }
-        // Clients, viewers, numbers and rows hold, even after an error.
-        ensures preserves { PreservesServing (measure W.width_of) self.old self.new }
-    {
-        self.responses.clear();
-        self.surface.forget_unneeded();
-        self.surface.add_lent_changes(changes)
-    }
-
-    /// Applies the changes in order without logging them, as `Surface::add_unlogged` does.
-    pub fn add_unlogged(&mut self, changes: &[LentChange<'_>]) -> Result<SequenceNo, SurfaceError>
-        ensures adds { AddsUnlogged (measure W.width_of self.old.surface.widths)
-            self.old.surface (map lent_value changes.now)
-            (next_number self.old.surface.log - 1 + length changes.now)
-            result self.new.surface }
-        // Clients, viewers, numbers and rows hold, even after an error.
-        ensures preserves { PreservesServing (measure W.width_of) self.old self.new }
-    {
-        self.responses.clear();
-        self.surface.add_unlogged(changes)
-    }
-
-    /// Applies the changes in order without logging them, and moves the lines that they scroll off
-    /// the top of the screen to the end of a scrollback, as `Surface::add_unlogged_scrolling` does.
-    pub fn add_unlogged_scrolling(
-        &mut self,
-        changes: &[LentChange<'_>],
-        scrollback: &mut Scrollback,
-    ) -> Result<SequenceNo, SurfaceError>
-        ensures adds { AddsUnlogged (measure W.width_of self.old.surface.widths)
-            self.old.surface (map lent_value changes.now)
-            (next_number self.old.surface.log - 1 + length changes.now)
-            result self.new.surface }
-        // The lines that scroll off are added, as they were shown. The old ones stay, even after an
-        // error.
-        ensures scrolled { AddsScrolledOff self.old.surface.width
-            (rows_scrolled_off (measure W.width_of self.old.surface.widths)
-            (screen_of self.old.surface) (kept_of self.old.surface) (map lent_value changes.now))
-            result scrollback.old.lines.items scrollback.new.lines.items }
-        ensures spare { spare_lines scrollback.new ≤ spare_lines scrollback.old }
-        // Clients, viewers, numbers and rows hold, even after an error.
-        ensures preserves { PreservesServing (measure W.width_of) self.old self.new }
-    {
-        self.responses.clear();
-        self.surface.add_unlogged_scrolling(changes, scrollback)
+        self.surface.add(list, lines)
     }
 
     /// Draws another surface from this column and this row on, as `Surface::draw_from_screen` does.

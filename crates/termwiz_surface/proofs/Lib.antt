@@ -14,7 +14,7 @@ pub mod Remembering
 mod Forgetting
 mod Unlogged
 pub mod Preserving
-mod Applying
+mod ChangeLists
 mod ScrolledOff
 mod Measuring
 mod Viewing

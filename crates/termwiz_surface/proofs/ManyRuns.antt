@@ -10,7 +10,7 @@ use Rattle.termwiz_surface.specs.History.{Names, IsPast, KeepsNames}
 use Rattle.termwiz_screen.specs.Log.{next_number}
 use Rattle.termwiz_screen.specs.Picture.{screens}
 use Rattle.termwiz_surface.specs.ManySchedule.{Held, ManyState, Receives, ResizesAs, Delivers, TakesOwnSize, AllowsMany, RunsMany, Ended, Next}
-use Rattle.termwiz_surface.specs.ManySteps.{many_state, IsNamed, IsHeld, Remembers, AnswersTo, TakesAs, DeliversTo, Serves}
+use Rattle.termwiz_surface.specs.ManySteps.{many_state, IsNamed, IsHeld, Remembers, AnswersTo, TakesGiven, DeliversTo, ServesEvent}
 use Rattle.termwiz_surface.specs.Schedule.{Acts}
 use Rattle.termwiz_screen.specs.Screen.{Screen}
 use Rattle.termwiz_surface.specs.Surface.{SurfaceValue, screen_of}
@@ -56,11 +56,11 @@ module _ {W : Type 0} (f : W → List ℕ → ℕ) where
       }
 
   pub serves-act : (s t : SurfaceValue W) (viewers : List (ViewerValue W)) (answers : List AnswerValue) (held : List Held) (e : Event W) (outcome : Outcome) → t.widths ≡ s.widths → KeepsNames (f s.widths) s t → Acts f s e outcome t
-      → Remembers f s viewers answers held → Serves f s viewers held (On e) (Of outcome) t viewers answers
+      → Remembers f s viewers answers held → ServesEvent f s viewers held (On e) (Of outcome) t viewers answers
   serves-act s t viewers answers held e outcome w goes acts r = record { later = held; remembers = remembers-on s t viewers answers held r w goes; allows = (acts, refl) }
 
   pub serves-answer : (s : SurfaceValue W) (viewers : List (ViewerValue W)) (answers new : List AnswerValue) (held : List Held) (v : ℕ) (viewer : ViewerValue W) (outcome : ManyOutcome) → v < length viewers → viewer ≡ get_or viewers v viewer
-      → AnswersTo f s viewer.last answers outcome new → Remembers f s viewers answers held → Serves f s viewers held (AnswerFor v) outcome s viewers new
+      → AnswersTo f s viewer.last answers outcome new → Remembers f s viewers answers held → ServesEvent f s viewers held (AnswerFor v) outcome s viewers new
   serves-answer s viewers answers new held v viewer (Kept k) lt e h r =
       let a = h.1.0 in
       let x : Held = record { answer = a; screen = screen_of s } in
@@ -98,7 +98,7 @@ module _ {W : Type 0} (f : W → List ℕ → ℕ) where
 
   -- a viewer that was given an answer
   module _ (viewer new : ViewerValue W) (a : AnswerValue) (t : Screen) (past : ℕ → Screen) (carries : Carries screens (f viewer.surface.widths) past a t) (names : Names past viewer.last (screen_of viewer.surface)) where
-    received : (outcome : ManyOutcome) → TakesAs f viewer a outcome new → Receives f viewer (record { answer = a; screen = t }) outcome new
+    received : (outcome : ManyOutcome) → TakesGiven f viewer a outcome new → Receives f viewer (record { answer = a; screen = t }) outcome new
     received (Accepted n told) h = let shows = h.2 past t carries names in (h.0, h.1 ∙ shows, shows, h.3)
     received (NotAccepted e) h = h
     received (Of o) h = absurd h
@@ -108,7 +108,7 @@ module _ {W : Type 0} (f : W → List ℕ → ℕ) where
     received NoSuch h = absurd h
 
     module _ (s : SurfaceValue W) (one_measure : f viewer.surface.widths ≡ f s.widths) (viewer_behind : viewer.last ≤ next_number s.log) (answer_behind : a.number ≤ next_number s.log) where
-      named_now : (outcome : ManyOutcome) → TakesAs f viewer a outcome new → Names past new.last (screen_of new.surface) → IsNamed f past s new
+      named_now : (outcome : ManyOutcome) → TakesGiven f viewer a outcome new → Names past new.last (screen_of new.surface) → IsNamed f past s new
       named_now (Accepted n told) h shown = record { one_measure = ap f h.0.4.widths ∙ one_measure; not_ahead = omega (arith, h.0.3, h.0.2, answer_behind); names = shown }
       named_now (NotAccepted Size) h shown = subst (IsNamed f past s) (sym h.1) (record { one_measure = one_measure; not_ahead = viewer_behind; names = names })
       named_now (NotAccepted Stale) h shown = subst (IsNamed f past s) (sym h.2) (record { one_measure = one_measure; not_ahead = viewer_behind; names = names })
@@ -171,7 +171,7 @@ module _ {W : Type 0} (f : W → List ℕ → ℕ) where
           r.viewers_so;
     }
 
-    pub serves-deliver : (outcome : ManyOutcome) → DeliversTo f viewer a outcome new → Serves f s viewers held (Deliver v k) outcome s (set viewers v new) answers
+    pub serves-deliver : (outcome : ManyOutcome) → DeliversTo f viewer a outcome new → ServesEvent f s viewers held (Deliver v k) outcome s (set viewers v new) answers
     serves-deliver (Accepted n told) d = record { later = held; remembers = remembered (Accepted n told) d; allows = delivered (Accepted n told) d }
     serves-deliver (NotAccepted x) d = record { later = held; remembers = remembered (NotAccepted x) d; allows = delivered (NotAccepted x) d }
     serves-deliver (Of o) d = absurd d.takes
@@ -202,7 +202,7 @@ module _ {W : Type 0} (f : W → List ℕ → ℕ) where
     takes : (outcome : ManyOutcome) → ResizesAs viewer w h outcome new → TakesOwnSize (many_state s viewers held) v w h outcome (many_state s (set viewers v new) held)
     takes outcome k = record { viewer = viewer; after = new; resizes = k; turns = record { has = record { inside = has; is = sym is }; new_is = refl } }
 
-    pub serves-resize : (outcome : ManyOutcome) → ResizesAs viewer w h outcome new → Serves f s viewers held (ResizeViewer v w h) outcome s (set viewers v new) answers
+    pub serves-resize : (outcome : ManyOutcome) → ResizesAs viewer w h outcome new → ServesEvent f s viewers held (ResizeViewer v w h) outcome s (set viewers v new) answers
     serves-resize Done k = record { later = held; remembers = remembers-resized Done k; allows = takes Done k }
     serves-resize (Refused e) k = record { later = held; remembers = remembers-resized (Refused e) k; allows = takes (Refused e) k }
     serves-resize (Of o) k = absurd k

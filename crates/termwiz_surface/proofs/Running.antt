@@ -4,14 +4,14 @@ use Rattle.std.specs.Prelude.{Result}
 use Rattle.termwiz_surface.specs.Following.{ViewerValue, Follows}
 use Rattle.termwiz_surface.specs.Surface.{SurfaceValue}
 use Rattle.termwiz_surface.specs.declared.surface.SurfaceError.{SurfaceError}
-use Rattle.termwiz_surface.specs.Schedule.{Reports, Acts, Views, Allows, Runs, Ended, Next, with_empty_log}
+use Rattle.termwiz_surface.specs.Schedule.{ReportsOutcome, Acts, Views, Allows, Runs, Ended, Next, with_empty_log}
 use Rattle.termwiz_surface.specs.declared.view.Event.{Event}
 use Rattle.termwiz_surface.specs.declared.view.Event.TheVariants.{Changes, Draw, Copy, Flush, Resize, Follow, Show, Ask}
 use Rattle.termwiz_surface.specs.declared.view.Outcome.{Outcome}
 use Rattle.termwiz_surface.specs.declared.view.Outcome.TheVariants.{Answered, Done, Refused, Followed, FollowedFull, Shown, Asked}
 
 -- what holds of an answer holds of the outcome that reports it
-pub Reports-answer : (holds : Result ℕ SurfaceError → Type 0) (answer : Result ℕ SurfaceError) (outcome : Outcome) → Reports (λ told. told ≡ answer) outcome → holds answer → Reports holds outcome
+pub Reports-answer : (holds : Result ℕ SurfaceError → Type 0) (answer : Result ℕ SurfaceError) (outcome : Outcome) → ReportsOutcome (λ told. told ≡ answer) outcome → holds answer → ReportsOutcome holds outcome
 Reports-answer holds answer (Answered n) e h = subst holds (sym e) h
 Reports-answer holds answer (Refused x) e h = subst holds (sym e) h
 Reports-answer holds answer Done e h = absurd e

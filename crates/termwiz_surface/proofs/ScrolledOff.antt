@@ -2,7 +2,7 @@
 use Rattle.std.proofs.Common.{◌≡◌, ℕ, zero, suc, ◌+◌, ◌-◌, ◌<◌, ◌≤◌, true, false, inl, inr, min, List, [], ◌∷◌, ◌++◌, length, get_or, map, drop, take, set, replicate, fold, refl, sym, ◌∙◌, ap, ap₂, subst, arith, append_assoc, append-nil, drop-set-lt, length-append, length-drop}
 use Rattle.std.specs.List.{All, concat}
 use Rattle.std.specs.Str.{IsUtf8}
-use Rattle.std.specs.Prelude.{◌==◌, ◌||◌, nat_le, nat_lt, Result, Ok, Err, OnErr}
+use Rattle.std.specs.Prelude.{◌==◌, ◌||◌, nat_le, nat_lt, Bool, IsTrue, Result, Ok, Err, OnErr}
 use Rattle.std.specs.Result.{is_err}
 use Rattle.std.proofs.lemmas.Bool.{cases_Bool, cases_eq, true≢false, and_parts, ne_eqb, eq-eqb, le-leb, lt-leb, or_left, or_right}
 use Rattle.std.proofs.lemmas.List.{map-append, length-set, get_or-set_same, get_or-set_other, get_or-append_right, get_or-drop, get_or-map, map-set, length-map, length-replicate, drop_at, drop-drop, drop-take, at_drop_more}
@@ -479,17 +479,17 @@ wrap-test x w within = elim (cases_eq x w) [
 -- ---- changes are applied in turn
 
 -- some of the changes are applied, and these are left
-pub record AppliesPart {W : Type 0} (f : List ℕ → ℕ) (r : SurfaceValue W) (all left : List ChangeValue) (u : List LineValue) (s : SurfaceValue W) (v : List LineValue) : Type 0 where
+pub record AppliesPart {W : Type 0} (keeps : Bool) (f : List ℕ → ℕ) (r : SurfaceValue W) (all left : List ChangeValue) (u : List LineValue) (s : SurfaceValue W) (v : List LineValue) : Type 0 where
   pub fit : regions_fit r.height left ≡ true
   pub frame : SameFrame r s
   pub mark : s.mark ≡ r.mark
   pub rows : MarksSome (touched f (screen_of r) all) (touched f (screen_of s) left) r s
   pub screen : replay f (screen_of s) left ≡ replay f (screen_of r) all
   pub kept : replay_kept f (screen_of s) (kept_of s) left ≡ replay_kept f (screen_of r) (kept_of r) all
-  pub leaves : LeavesRows r.width (rows_scrolled_off f (screen_of r) (kept_of r) all) (rows_scrolled_off f (screen_of s) (kept_of s) left) u v
+  pub leaves : IsTrue keeps → LeavesRows r.width (rows_scrolled_off f (screen_of r) (kept_of r) all) (rows_scrolled_off f (screen_of s) (kept_of s) left) u v
 
-module _ {W : Type 0} (f : List ℕ → ℕ) (r : SurfaceValue W) (all : List ChangeValue) (u : List LineValue) where
-  pub part-none : regions_fit r.height all ≡ true → AppliesPart f r all all u r u
+module _ {W : Type 0} (keeps : Bool) (f : List ℕ → ℕ) (r : SurfaceValue W) (all : List ChangeValue) (u : List LineValue) where
+  pub part-none : regions_fit r.height all ≡ true → AppliesPart keeps f r all all u r u
   part-none fit = record {
     fit = fit;
     frame = record { widths = refl; width = refl; height = refl; full = refl; log = refl };
@@ -497,10 +497,10 @@ module _ {W : Type 0} (f : List ℕ → ℕ) (r : SurfaceValue W) (all : List Ch
     rows = some-none (touched f (screen_of r) all) r;
     screen = refl;
     kept = refl;
-    leaves = leaves-all r.width (rows_scrolled_off f (screen_of r) (kept_of r) all) u;
+    leaves = λ on. leaves-all r.width (rows_scrolled_off f (screen_of r) (kept_of r) all) u;
   }
 
-  pub part-all : (s : SurfaceValue W) (v : List LineValue) → AppliesPart f r all [] u s v → Becomes r (replay f (screen_of r) all) (replay_kept f (screen_of r) (kept_of r) all) (touched f (screen_of r) all) s
+  pub part-all : (s : SurfaceValue W) (v : List LineValue) → AppliesPart keeps f r all [] u s v → Becomes r (replay f (screen_of r) all) (replay_kept f (screen_of r) (kept_of r) all) (touched f (screen_of r) all) s
   part-all s v p = record {
     widths = p.frame.widths;
     width = p.frame.width;
@@ -513,10 +513,10 @@ module _ {W : Type 0} (f : List ℕ → ℕ) (r : SurfaceValue W) (all : List Ch
     kept_is = p.kept;
   }
 
-  pub part-off : (s : SurfaceValue W) (v : List LineValue) → AppliesPart f r all [] u s v → ScrollsOff r.width (rows_scrolled_off f (screen_of r) (kept_of r) all) u v
-  part-off s v p = off-leaves r.width (rows_scrolled_off f (screen_of r) (kept_of r) all) [] u v refl p.leaves
+  pub part-off : (s : SurfaceValue W) (v : List LineValue) → AppliesPart keeps f r all [] u s v → IsTrue keeps → ScrollsOff r.width (rows_scrolled_off f (screen_of r) (kept_of r) all) u v
+  part-off s v p on = off-leaves r.width (rows_scrolled_off f (screen_of r) (kept_of r) all) [] u v refl (p.leaves on)
 
-  module _ (c : ChangeValue) (left : List ChangeValue) (s : SurfaceValue W) (v : List LineValue) (p : AppliesPart f r all (c ∷ left) u s v) where
+  module _ (c : ChangeValue) (left : List ChangeValue) (s : SurfaceValue W) (v : List LineValue) (p : AppliesPart keeps f r all (c ∷ left) u s v) where
     pub part-fits : region_fits s.height c ≡ true
     part-fits = ap (λ (h : ℕ). region_fits h c) p.frame.height ∙ (and_parts (region_fits r.height c) (regions_fit r.height left) p.fit).0
 
@@ -524,9 +524,9 @@ module _ {W : Type 0} (f : List ℕ → ℕ) (r : SurfaceValue W) (all : List Ch
     rows_left : (t : SurfaceValue W) → Becomes s (step f (screen_of s) c) (step_kept f (screen_of s) (kept_of s) c) (touches f (screen_of s) c) t → rows_scrolled_off f (screen_of s) (kept_of s) (c ∷ left) ≡ left_step f (screen_of s) (kept_of s) c ++ rows_scrolled_off f (screen_of t) (kept_of t) left
     rows_left t b = ap₂ (λ (z : Screen) (k : Kept). left_step f (screen_of s) (kept_of s) c ++ rows_scrolled_off f z k left) (sym b.screen_is) (sym b.kept_is)
 
-    pub part-more : (t : SurfaceValue W) (x : List LineValue) → Becomes s (step f (screen_of s) c) (step_kept f (screen_of s) (kept_of s) c) (touches f (screen_of s) c) t → ScrollsOff s.width (left_step f (screen_of s) (kept_of s) c) v x → AppliesPart f r all left u t x
+    pub part-more : (t : SurfaceValue W) (x : List LineValue) → Becomes s (step f (screen_of s) c) (step_kept f (screen_of s) (kept_of s) c) (touches f (screen_of s) c) t → (IsTrue keeps → ScrollsOff s.width (left_step f (screen_of s) (kept_of s) c) v x) → AppliesPart keeps f r all left u t x
     part-more t x b off =
-        let more : ScrollsOff r.width (left_step f (screen_of s) (kept_of s) c) v x = subst (λ (w : ℕ). ScrollsOff w (left_step f (screen_of s) (kept_of s) c) v x) p.frame.width off in
+        let more : IsTrue keeps → ScrollsOff r.width (left_step f (screen_of s) (kept_of s) c) v x = λ on. subst (λ (w : ℕ). ScrollsOff w (left_step f (screen_of s) (kept_of s) c) v x) p.frame.width (off on) in
         record {
           fit = (and_parts (region_fits r.height c) (regions_fit r.height left) p.fit).1;
           frame = record {
@@ -541,20 +541,25 @@ module _ {W : Type 0} (f : List ℕ → ℕ) (r : SurfaceValue W) (all : List Ch
               (λ j. ap (λ (z : Screen). touches f (screen_of s) c j || touched f z left j) (sym b.screen_is)) p.rows b.rows;
           screen = ap (λ (z : Screen). replay f z left) b.screen_is ∙ p.screen;
           kept = ap₂ (λ (z : Screen) (k : Kept). replay_kept f z k left) b.screen_is b.kept_is ∙ p.kept;
-          leaves = leaves-then r.width (rows_scrolled_off f (screen_of r) (kept_of r) all) (rows_scrolled_off f (screen_of s) (kept_of s) (c ∷ left)) (rows_scrolled_off f (screen_of t) (kept_of t) left) u v x p.leaves
-              (leaves-off r.width (left_step f (screen_of s) (kept_of s) c) (rows_scrolled_off f (screen_of t) (kept_of t) left) (rows_scrolled_off f (screen_of s) (kept_of s) (c ∷ left)) v x (rows_left t b) more);
+          leaves = λ on. leaves-then r.width (rows_scrolled_off f (screen_of r) (kept_of r) all) (rows_scrolled_off f (screen_of s) (kept_of s) (c ∷ left)) (rows_scrolled_off f (screen_of t) (kept_of t) left) u v x (p.leaves on)
+              (leaves-off r.width (left_step f (screen_of s) (kept_of s) c) (rows_scrolled_off f (screen_of t) (kept_of t) left) (rows_scrolled_off f (screen_of s) (kept_of s) (c ∷ left)) v x (rows_left t b) (more on));
         }
 
     -- memory was refused within the change
-    pub part-begins : (x : List LineValue) → BeginsRows s.width (left_step f (screen_of s) (kept_of s) c) v x → BeginsRows r.width (rows_scrolled_off f (screen_of r) (kept_of r) all) u x
-    part-begins x begins =
-        let own : BeginsRows r.width (left_step f (screen_of s) (kept_of s) c) v x = subst (λ (w : ℕ). BeginsRows w (left_step f (screen_of s) (kept_of s) c) v x) p.frame.width begins in
-        begins-then r.width (rows_scrolled_off f (screen_of r) (kept_of r) all) (rows_scrolled_off f (screen_of s) (kept_of s) (c ∷ left)) u v x p.leaves
+    pub part-begins : (x : List LineValue) → (IsTrue keeps → BeginsRows s.width (left_step f (screen_of s) (kept_of s) c) v x) → IsTrue keeps → BeginsRows r.width (rows_scrolled_off f (screen_of r) (kept_of r) all) u x
+    part-begins x begins on =
+        let own : BeginsRows r.width (left_step f (screen_of s) (kept_of s) c) v x = subst (λ (w : ℕ). BeginsRows w (left_step f (screen_of s) (kept_of s) c) v x) p.frame.width (begins on) in
+        begins-then r.width (rows_scrolled_off f (screen_of r) (kept_of r) all) (rows_scrolled_off f (screen_of s) (kept_of s) (c ∷ left)) u v x (p.leaves on)
         (begins-before r.width (left_step f (screen_of s) (kept_of s) c) (rows_scrolled_off f (step f (screen_of s) c) (step_kept f (screen_of s) (kept_of s) c) left) (rows_scrolled_off f (screen_of s) (kept_of s) (c ∷ left)) v x refl own)
 
 -- the next one of the changes that are left
 pub mapped-next : {X : Type 0} (f : X → ChangeValue) (xs : List X) (i : ℕ) (x : X) → i < length xs → x ≡ get_or xs i x → map f (drop i xs) ≡ f x ∷ map f (drop (i + 1) xs)
 mapped-next {X = X} f xs i x inside e = at_drop_more (λ (ys : List X). map f ys) xs i x inside ∙ ap (λ (y : X). f y ∷ map f (drop (i + 1) xs)) (sym e)
+
+-- this holds at an error, where lines are kept
+pub on-err : {T E : Type 0} (keeps : Bool) (result : Result T E) {P : Type 0} → (IsTrue keeps → P) → OnErr result (IsTrue keeps → P)
+on-err keeps (Ok x) kept = tt
+on-err keeps (Err e) kept = kept
 
 -- what holds at an error
 pub when-err : {E A : Type 0} (result : Result (Unit {0}) E) → is_err result ≡ true → OnErr result A → A

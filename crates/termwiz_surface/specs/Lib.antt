@@ -5,6 +5,7 @@ pub mod Measuring
 pub mod Printing
 pub mod Adding
 pub mod Unlogged
+pub mod ChangeLists
 pub mod Scrollback
 pub mod ScrolledOff
 pub mod Resizing
@@ -59,6 +60,7 @@ pub use Rattle.termwiz_surface.specs.RowNumbers.{HasStayed, NumbersRows, Numbers
 pub use Rattle.termwiz_surface.specs.Touching.{touched, touches, touched_by, one_touches, piece_touches, eol_touches, scroll_touches, wrap_touches, down_touches, cursor_row, every_row, no_row}
 pub use Rattle.termwiz_surface.specs.Adding.{Adds, Makes, with_log, marking}
 pub use Rattle.termwiz_surface.specs.Unlogged.{AddsUnlogged, MakesUnlogged, lent_value}
+pub use Rattle.termwiz_surface.specs.ChangeLists.{AddsList, MakesList, change_list, is_logged}
 pub use Rattle.termwiz_surface.specs.Measuring.{AreMeasured}
 pub use Rattle.termwiz_surface.specs.Scrollback.{spare_lines}
 pub use Rattle.termwiz_surface.specs.ScrolledOff.{AddsScrolledOff, BeginsRows, ScrollsOff, ShownRow, first_rows, left_by, left_one, left_piece, left_region, left_step, line_shown, row_shown, rows_scrolled_off}
@@ -159,9 +161,9 @@ pub use Rattle.termwiz_surface.specs.Following.{Accepts, Fetches, Fits, forgetfu
 pub use Rattle.termwiz_surface.specs.FollowingLaws.{ChangesLeadOn, FlushesKeepLeading, LeadsWhereItIs, RestartsKeepLeading, StreamsLeadOn}
 pub use Rattle.termwiz_surface.specs.HistoryLaws.{AnswersStay, CarriedLead, ChangesGoOn, FlushesKeepPast, GivenCarry, NamedAreLed, NamesStay, NothingIsNamedAtFirst, NumberNamesPicture, RestartsGoOn}
 pub use Rattle.termwiz_surface.specs.ManySchedule.{Held, IsManyInRange, ResizesAs}
-pub use Rattle.termwiz_surface.specs.ManySteps.{AnswersTo, DeliversTo, Remembers, Serves}
+pub use Rattle.termwiz_surface.specs.ManySteps.{AnswersTo, DeliversTo, Remembers, ServesEvent}
 pub use Rattle.termwiz_surface.specs.Printing.{PrintsFirst, PrintsGraphemes}
-pub use Rattle.termwiz_surface.specs.Schedule.{Acts, Allows, IsInRange, IsScheduleOf, Reports, Views, with_empty_log}
+pub use Rattle.termwiz_surface.specs.Schedule.{Acts, Allows, IsInRange, IsScheduleOf, ReportsOutcome, Views, with_empty_log}
 pub use Rattle.termwiz_surface.specs.ScheduleLaws.{BrokenListsLeaveForm, FollowedFullLeadOn, FollowedLeadOn, LackMemory, LackNumbers}
 pub use Rattle.termwiz_surface.specs.RowNumbers.{AreMarked, AreRenewed}
 pub use Rattle.termwiz_surface.specs.ScrolledOff.{LeavesRows, first_leaves, left_behind_first, moves_down, top_leaves, topped}

@@ -69,7 +69,7 @@ module _ {W : Type 0} where
 
 module _ {W : Type 0} (measure_of : W → List ℕ → ℕ) where
   -- the surface answers viewer v, and the answer is kept as the last one
-  pub record Keeps (old : ManyState W) (v k : ℕ) (new : ManyState W) : Type 0 where
+  pub record KeepsAnswer (old : ManyState W) (v k : ℕ) (new : ManyState W) : Type 0 where
     pub viewer : ViewerValue W
     pub answer : AnswerValue
     pub has : IsAt old.viewers v viewer
@@ -111,7 +111,7 @@ module _ {W : Type 0} (measure_of : W → List ℕ → ℕ) where
       (new ≡ record old { surface = new.surface })
   -- a surface among several viewers has none that follows it
   AllowsMany old (On e) NoSuch new = (e ≡ event.Follow) × (new ≡ old)
-  AllowsMany old (AnswerFor v) (Kept k) new = Keeps old v k new
+  AllowsMany old (AnswerFor v) (Kept k) new = KeepsAnswer old v k new
   AllowsMany old (AnswerFor v) (Refused refused.Memory) new = (v < length old.viewers) × (new ≡ old)
   AllowsMany old (AnswerFor v) NoSuch new = (length old.viewers ≤ v) × (new ≡ old)
   AllowsMany old (Deliver v k) NoSuch new =

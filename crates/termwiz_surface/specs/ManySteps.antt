@@ -59,9 +59,9 @@ module _ {W : Type 0} where
   AnswersTo measure_of s n old _ new = ⊥
 
   -- a viewer is given an answer, and the outcome has what it shows then where it accepts it
-  abbrev pub TakesAs :
+  abbrev pub TakesGiven :
       (W → List ℕ → ℕ) → ViewerValue W → AnswerValue → ManyOutcome → ViewerValue W → Type 0
-  TakesAs measure_of old a (Accepted n screen) new =
+  TakesGiven measure_of old a (Accepted n screen) new =
       Takes (measure_of old.surface.widths) old a (Ok n) new ×
       (screen_value screen ≡ screen_of new.surface)
       ×
@@ -70,20 +70,20 @@ module _ {W : Type 0} where
       Names past old.last (screen_of old.surface) → screen_of new.surface ≡ s)
       ×
       HasUnmarkedRows screen
-  TakesAs measure_of old a (NotAccepted e) new =
+  TakesGiven measure_of old a (NotAccepted e) new =
       Takes (measure_of old.surface.widths) old a (Err e) new
-  TakesAs measure_of old a _ new = ⊥
+  TakesGiven measure_of old a _ new = ⊥
 
   pub record DeliversTo (measure_of : W → List ℕ → ℕ) (old : ViewerValue W) (a : AnswerValue)
       (outcome : ManyOutcome) (new : ViewerValue W) : Type 0 where
-    pub takes : TakesAs measure_of old a outcome new
+    pub takes : TakesGiven measure_of old a outcome new
     pub names :
         (past : ℕ → Screen) (s : Screen) →
         Carries screens (measure_of old.surface.widths) past a s →
         Names past old.last (screen_of old.surface) → Names past new.last (screen_of new.surface)
 
   -- the schedule allows the event's outcome, and the numbers still name what they named
-  pub record Serves (measure_of : W → List ℕ → ℕ) (s : SurfaceValue W)
+  pub record ServesEvent (measure_of : W → List ℕ → ℕ) (s : SurfaceValue W)
       (viewers : List (ViewerValue W)) (held : List Held) (event : ManyEvent W)
       (outcome : ManyOutcome) (t : SurfaceValue W) (after : List (ViewerValue W))
       (answers : List AnswerValue) : Type 0 where

@@ -30,10 +30,10 @@ IsInRange (Resize w h) = IsSurfaceSize w h
 IsInRange _ = ⊤
 
 -- the outcome has a number, or an error, of which this holds
-abbrev pub Reports : (Result ℕ SurfaceError → Type 0) → Outcome → Type 0
-Reports holds (Answered n) = holds (Ok n)
-Reports holds (Refused e) = holds (Err e)
-Reports holds _ = ⊥
+abbrev pub ReportsOutcome : (Result ℕ SurfaceError → Type 0) → Outcome → Type 0
+ReportsOutcome holds (Answered n) = holds (Ok n)
+ReportsOutcome holds (Refused e) = holds (Err e)
+ReportsOutcome holds _ = ⊥
 
 -- each row of the copied screen has the number 0 and no flags
 pub record HasUnmarkedRows (screen : code.Screen) : Type 0 where
@@ -49,14 +49,14 @@ module _ {W : Type 0} (measure_of : W → List ℕ → ℕ) where
   -- the surface does an event of its own
   abbrev pub Acts : SurfaceValue W → Event W → Outcome → SurfaceValue W → Type 0
   Acts s (Changes changes) outcome t =
-      Reports
+      ReportsOutcome
       (λ result. Adds (measure_of s.widths) s (map change_value changes.items)
       (next_number s.log - 1 + vec_len changes) result t)
       outcome
   Acts s (Draw other x y) outcome t =
-      Reports (λ result. IsDrawn measure_of s other (whole_at other x y) result t) outcome
+      ReportsOutcome (λ result. IsDrawn measure_of s other (whole_at other x y) result t) outcome
   Acts s (Copy from_x from_y w h x y) outcome t =
-      Reports (λ result. IsCopied measure_of s from_x from_y w h x y result t) outcome
+      ReportsOutcome (λ result. IsCopied measure_of s from_x from_y w h x y result t) outcome
   Acts s (Flush n) Done t = t ≡ with_log s (flushed s.log n)
   Acts s (Resize w h) Done t = Resizes s w h (Ok tt) t
   Acts s (Resize w h) (Refused e) t = Resizes s w h (Err e) t

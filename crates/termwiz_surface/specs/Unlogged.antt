@@ -8,8 +8,8 @@ use Rattle.termwiz_screen.specs.Step.{regions_fit}
 use Rattle.termwiz_surface.specs.Adding.{Adds, Makes, with_log}
 use Rattle.termwiz_surface.specs.Surface.{SurfaceValue}
 use Rattle.termwiz_surface.specs.declared.surface.SurfaceError.{SurfaceError}
-use Rattle.termwiz_surface.specs.declared.surface.unlogged.LentChange.{LentChange}
-use Rattle.termwiz_surface.specs.declared.surface.unlogged.LentChange.TheVariants.{Text, Title, Owned}
+use Rattle.termwiz_surface.specs.declared.surface.lists.LentChange.{LentChange}
+use Rattle.termwiz_surface.specs.declared.surface.lists.LentChange.TheVariants.{Text, Title, Owned}
 
 -- the change that this is, with its own text or a lent one
 abbrev pub lent_value : LentChange → ChangeValue

@@ -7,8 +7,9 @@
 //! by its name alone.
 //!
 //! - `specs/Surface.antt` defines a surface in contracts, and its invariant.
-//! - `specs/Adding.antt`, `specs/Resizing.antt` and `specs/Copies.antt` define what a list of
-//!   changes, a resize, and draws and copies do to a surface (`surface.rt`).
+//! - `specs/Adding.antt` and `specs/ChangeLists.antt` define what a list of changes does to a
+//!   surface (`surface/adding.rt`), and `specs/ScrolledOff.antt` which lines it scrolls off.
+//!   `specs/Resizing.antt` and `specs/Copies.antt` define resizes, and draws and copies.
 //! - `specs/Asking.antt` defines what answers viewers get, and `specs/Diffs.antt` what a diff of
 //!   two surfaces prints.
 //! - `specs/Following.antt` defines when a viewer follows a surface: each call that changes a
@@ -29,8 +30,11 @@ pub mod scrollback;
 pub mod surface;
 pub mod view;
 
-pub use scrollback::Scrollback;
-pub use surface::{Answer, FullScreen, LentChange, NewSurfaceError, Screen, Surface, SurfaceError};
+pub use scrollback::{LineSink, NoScrollback, Scrollback};
+pub use surface::{
+    Answer, ChangeList, FullScreen, LentChange, LentChanges, NewSurfaceError, Screen, Surface,
+    SurfaceError,
+};
 pub use termwiz_cell::cell::{AttributeChange, Cell, CellAttributes};
 pub use termwiz_cell::change::{
     Change, CursorShape, CursorVisibility, Position, SEQ_ZERO, SequenceNo,

@@ -5,12 +5,63 @@ ghost use Rattle.termwiz_surface.specs.{blank, spare_lines};
 
 use std::alloc::{AllocError, Global};
 use std::collections::VecDeque;
+use std::mem;
 use termwiz_cell::change::SEQ_ZERO;
 use termwiz_cell::hyperlink::LinkCopies;
 use termwiz_line::line::line::Line;
 
-/// Lines outside of a screen, as a program's scrollback: `add_changes_scrolling` and
-/// `add_unlogged_scrolling` move the lines that scroll off a surface to its end.
+/// Where the lines go that scroll off the top of a surface: to the end of a `Scrollback`, or, with
+/// `NoScrollback`, nowhere.
+pub trait LineSink {
+    ghost use Rattle.std.specs.Prelude.{◌≡◌, ◌++◌, ◌∷◌, ◌≤◌, [], Bool, IsTrue, List, OnErr, OnOk};
+    ghost use Rattle.std.specs.Prelude.{ℕ, replicate};
+    ghost use Rattle.termwiz_cell.specs.CellValue.{blank};
+    ghost use Rattle.termwiz_line.specs.LineValue.{LineValue};
+    ghost use Rattle.termwiz_screen.specs.ScreenValue.{numberless};
+
+    ghost KEEPS: { Bool };
+
+    ghost lines_of: { Self → List LineValue };
+
+    ghost spare_of: { Self → ℕ };
+
+    /// Whether lines are kept.
+    const KEEPS: bool;
+
+    /// Where lines are kept, moves a row of `width` columns to their end, and leaves a row of
+    /// default blanks in its place. The line shares no memory with the surface that it comes from.
+    /// After an error the row and the lines are as before.
+    fn take(&mut self, alloc: Global, width: usize, row: &mut Line) -> Result<(), AllocError>
+        ensures row { OnOk result (IsTrue KEEPS → row.new ≡ numberless (replicate width blank)) }
+        ensures taken { OnOk result (IsTrue KEEPS →
+            lines_of self.new ≡ lines_of self.old ++ row.old ∷ []) }
+        ensures err { OnErr result (row.new ≡ row.old) }
+        ensures kept { OnErr result (lines_of self.new ≡ lines_of self.old) }
+        ensures spare { spare_of self.new ≤ spare_of self.old };
+}
+
+/// Keeps no line that scrolls off.
+#[derive(Clone, Copy, Debug)]
+pub struct NoScrollback;
+
+impl LineSink for NoScrollback {
+    ghost use Rattle.std.specs.Prelude.{[], false};
+
+    ghost KEEPS = { false };
+
+    ghost lines_of = { λ _. [] };
+
+    ghost spare_of = { λ _. 0 };
+
+    const KEEPS: bool = false;
+
+    fn take(&mut self, _alloc: Global, _width: usize, _row: &mut Line) -> Result<(), AllocError> {
+        Ok(())
+    }
+}
+
+/// Lines outside of a screen, as a program's scrollback: a surface moves the lines that scroll off
+/// it to the end.
 ///
 /// A row that takes the place of such a line is given the memory of a line that was removed, if
 /// there is one. So a scrollback that loses a line for each new one asks for no memory.
@@ -22,6 +73,29 @@ pub struct Scrollback {
     spare: Vec<Line>,
     // Copies of the links of its last lines.
     links: LinkCopies,
+}
+
+impl LineSink for Scrollback {
+    ghost use Rattle.std.specs.Prelude.{true};
+    ghost use Rattle.termwiz_surface.specs.Scrollback.{spare_lines};
+
+    ghost KEEPS = { true };
+
+    ghost lines_of = { λ s. s.lines.items };
+
+    ghost spare_of = { spare_lines };
+
+    const KEEPS: bool = true;
+
+    fn take(&mut self, alloc: Global, width: usize, row: &mut Line) -> Result<(), AllocError> {
+        self.own_links(row)?;
+        // Once there is room for the row, nothing fails.
+        self.lines.reserve(1)?;
+        let blank = self.blank_row(alloc, width)?;
+        let line = mem::replace(row, blank);
+        self.lines.push_back_reserved(line);
+        Ok(())
+    }
 }
 
 impl Scrollback {
@@ -95,7 +169,7 @@ impl Scrollback {
     }
 
     // A row of default blanks, in the memory of a spare line where there is one.
-    pub(crate) fn blank_row(&mut self, alloc: Global, width: usize) -> Result<Line, AllocError>
+    fn blank_row(&mut self, alloc: Global, width: usize) -> Result<Line, AllocError>
         ensures made { IfOk result (λ line. line ≡ numberless (replicate width blank)) }
         ensures kept { self.new.lines ≡ self.old.lines }
         ensures spare { spare_lines self.new ≤ spare_lines self.old }

@@ -1,18 +1,17 @@
 //! Surfaces.
-ghost use Rattle.std.specs.Prelude.{◌≡◌, ◌+◌, ◌-◌, ◌<◌, ◌^◌, ◌∷◌, [], IfOk, OnErr, length, vec_len};
-ghost use Rattle.termwiz_surface.specs.{IsSurfaceSize, Preserves, SameFrame, blank_surface};
-ghost use Rattle.termwiz_surface.specs.{blank_surface_from};
-ghost use Rattle.termwiz_surface.specs.{change_value, next_number, region_fits, regions_fit};
-ghost use Rattle.termwiz_surface.specs.{IsSound, Makes, Refuses, false, measure};
-ghost use Rattle.termwiz_surface.specs.{Adds, IsOk, NumbersRows, OnOk, map, stream_of, true};
+ghost use Rattle.std.specs.Prelude.{◌≡◌, IfOk};
+ghost use Rattle.termwiz_surface.specs.{IsSurfaceSize, blank_surface, blank_surface_from, false};
+ghost use Rattle.termwiz_surface.specs.{true};
 ghost use Rattle.termwiz_surface.specs.declared.surface.NewSurfaceError.TheVariants as errors;
 
+mod adding;
 mod answer;
 mod answers;
 mod copies;
 mod diff;
 mod full;
 mod lines;
+mod lists;
 mod measuring;
 mod numbers;
 mod print;
@@ -21,30 +20,23 @@ mod resizing;
 mod scrolled_off;
 mod sized;
 mod steps;
-mod unlogged;
 
-use crate::view::copied;
 pub use answer::Answer;
+pub use lists::{ChangeList, LentChange, LentChanges};
 use numbers::RowNumbers;
 use std::alloc::{AllocError, Global};
-use std::borrow::CowSlice;
 use std::collections::VecDeque;
 use std::marker::Model;
-use std::slice;
 use termwiz_cell::cell::CellAttributes;
-use termwiz_cell::change::{Change, any_sets_link, own_links};
 pub use termwiz_cell::change::{CursorShape, CursorVisibility, Position, SEQ_ZERO, SequenceNo};
 use termwiz_cell::color::ColorAttribute;
 use termwiz_cell::emoji::Widths;
-use termwiz_cell::hyperlink::LinkCopies;
 use termwiz_line::line::line::Line;
 pub use termwiz_screen::full::FullScreen;
 use termwiz_screen::log::Log;
 use termwiz_screen::rows::blank_rows;
 pub use termwiz_screen::screen::Screen;
-use termwiz_screen::scroll_region::regions_fit;
 use thiserror::Error;
-pub use unlogged::LentChange;
 
 /// Why a list of changes, or a resize, is refused. The first applicable error is returned, in this
 /// order.
@@ -101,8 +93,9 @@ impl From<AllocError> for NewSurfaceError {
 /// visibility, and the pen, which is the attributes of the next text.
 ///
 /// `add_change` adds one change, and `add_changes` a list of them: texts, pens, clears, moves and
-/// scrolls. The surface applies them in order, and logs them by their numbers. It also keeps a
-/// title, the cursor's shape and colour, and how large each line is shown.
+/// scrolls. The surface applies them in order, and logs them by their numbers. `add` also takes
+/// lists that are borrowed or aren't logged, and keeps the lines that scroll off. A surface keeps a
+/// title too, the cursor's shape and colour, and how large each line is shown.
 ///
 /// `get_changes` returns what a viewer lacks: the changes since the number that it was last given,
 /// or, where the log no longer has them or they are too many, a repaint, which leads from any
@@ -287,197 +280,4 @@ impl<W: Widths> Surface<W> {
             mark: seq,
         })
     }
-
-    // Refuses a list of changes that can't be applied, before any is applied.
-    fn refuse(&self, changes: &[Change]) -> Result<(), SurfaceError>
-        ensures { Refuses self.now (map change_value changes.now) result }
-    {
-        if !regions_fit(changes, self.height) {
-            return Err(SurfaceError::ScrollRegion);
-        }
-        if !self.log.has_numbers(changes.len()) {
-            return Err(SurfaceError::Numbers);
-        }
-        Ok(())
-    }
-
-    // Applies a change and logs it.
-    fn make_one(&mut self, change: Change) -> Result<(), AllocError>
-        requires fits { region_fits self.old.height (change_value change) ≡ true }
-        requires numbers { next_number self.old.log + 1 < 2 ^ 64 }
-        ensures ok { OnOk result (Makes (measure W.width_of self.old.widths)
-            self.old (change_value change ∷ []) self.new) }
-        ensures err { OnErr result (SameFrame self.old self.new) }
-    {
-        self.log.reserve(1)?;
-        self.mark = self.log.next_number() + 1;
-        self.apply(&change)?;
-        self.log.push(change)?;
-        Ok(())
-    }
-
-    // Applies the changes and logs them.
-    fn make_all(&mut self, changes: Vec<Change>) -> Result<(), AllocError>
-        requires fits { regions_fit self.old.height (map change_value changes.items) ≡ true }
-        requires numbers { next_number self.old.log + vec_len changes < 2 ^ 64 }
-        ensures ok { OnOk result (Makes (measure W.width_of self.old.widths)
-            self.old (map change_value changes.items) self.new) }
-        ensures err { OnErr result (SameFrame self.old self.new) }
-        ensures some { OnErr result (0 < vec_len changes) }
-        ensures none { vec_len changes ≡ 0 → NumbersRows self.old self.new }
-    {
-        self.log.reserve(changes.len())?;
-        self.mark = self.log.next_number() + changes.len();
-        self.apply_all(changes.as_slice())?;
-        self.log.append(changes)?;
-        Ok(())
-    }
-
-    // Applies the changes and logs clones of them.
-    fn make_lent(&mut self, changes: &[Change]) -> Result<(), AllocError>
-        requires fits { regions_fit self.old.height (map change_value changes.now) ≡ true }
-        requires numbers { next_number self.old.log + length changes.now < 2 ^ 64 }
-        ensures ok { OnOk result (Makes (measure W.width_of self.old.widths)
-            self.old (map change_value changes.now) self.new) }
-        ensures err { OnErr result (SameFrame self.old self.new) }
-        ensures some { OnErr result (0 < length changes.now) }
-        ensures none { length changes.now ≡ 0 → NumbersRows self.old self.new }
-    {
-        self.log.reserve(changes.len())?;
-        self.mark = self.log.next_number() + changes.len();
-        self.apply_all(changes)?;
-        self.log.append_clones(changes)?;
-        Ok(())
-    }
-
-    // Applies the changes, with links of the surface's own in place of theirs, and logs them.
-    fn make_linked(&mut self, changes: Vec<Change>) -> Result<(), AllocError>
-        requires fits { regions_fit self.old.height (map change_value changes.items) ≡ true }
-        requires numbers { next_number self.old.log + vec_len changes < 2 ^ 64 }
-        ensures ok { OnOk result (Makes (measure W.width_of self.old.widths)
-            self.old (map change_value changes.items) self.new) }
-        ensures err { OnErr result (SameFrame self.old self.new) }
-        ensures none { vec_len changes ≡ 0 → NumbersRows self.old self.new }
-    {
-        let mut changes = changes;
-        own_links(self.alloc, &mut changes, &mut LinkCopies::new())?;
-        self.make_all(changes)
-    }
-
-    // Applies the changes as `make_linked` does. Those that set no link need no copies.
-    fn make_own(&mut self, changes: CowSlice<'_, Change>) -> Result<(), AllocError>
-        requires fits { regions_fit self.old.height (stream_of changes) ≡ true }
-        requires numbers { next_number self.old.log + length (stream_of changes) < 2 ^ 64 }
-        ensures ok { OnOk result (Makes (measure W.width_of self.old.widths)
-            self.old (stream_of changes.entry) self.new) }
-        ensures err { OnErr result (SameFrame self.old self.new) }
-        ensures some { OnErr result (0 < length (stream_of changes.entry)) }
-        ensures none { length (stream_of changes.entry) ≡ 0 → NumbersRows self.old self.new }
-    {
-        match changes {
-            CowSlice::Borrowed(lent) => {
-                if !any_sets_link(lent) {
-                    return self.make_lent(lent);
-                }
-                let copies = copied(self.alloc, CowSlice::Borrowed(lent))?;
-                self.make_linked(copies)
-            }
-            CowSlice::Owned(list) => {
-                if !any_sets_link(&list) {
-                    return self.make_all(list);
-                }
-                self.make_linked(list)
-            }
-        }
-    }
-
-    /// Applies one change, and returns its number. `ScrollRegion`, `Numbers`: the surface is
-    /// unchanged. `Memory`: the change may be applied in part; the surface is valid and has its old
-    /// size, its log is empty, and its number is greater by one, or still 0.
-    pub fn add_change(&mut self, change: Change) -> Result<SequenceNo, SurfaceError>
-        ensures adds { Adds (measure W.width_of self.old.widths)
-            self.old (change_value change ∷ []) (next_number self.old.log) result self.new }
-        // Viewers, numbers and rows hold, even after an error.
-        ensures preserves { Preserves (measure W.width_of) self.old self.new }
-    {
-        self.refuse(slice::from_ref(&change))?;
-        let number = self.log.next_number();
-        if self.make_one(change).is_err() {
-            self.restart();
-            return Err(SurfaceError::Memory);
-        }
-        Ok(number)
-    }
-
-    /// Applies the changes in order. Returns `max(n, 1) - 1 + changes.len()`, where `n` is the
-    /// surface's number before the call: for a list that isn't empty, the number of its last
-    /// change, or one more where `n` is 0.
-    ///
-    /// - `ScrollRegion`, `Numbers`: the surface is unchanged.
-    /// - `Memory`: some changes may be applied, the last of them in part; the surface is valid and
-    ///   has its old size, its log is empty, and its number is greater by one, or still 0.
-    pub fn add_changes(&mut self, changes: Vec<Change>) -> Result<SequenceNo, SurfaceError>
-        ensures adds { Adds (measure W.width_of self.old.widths)
-            self.old (map change_value changes.items)
-            (next_number self.old.log - 1 + vec_len changes) result self.new }
-        ensures empty { vec_len changes ≡ 0 → IsOk result }
-        // Viewers, numbers and rows hold, even after an error.
-        ensures preserves { Preserves (measure W.width_of) self.old self.new }
-    {
-        self.refuse(changes.as_slice())?;
-        let number = number_for(self.log.next_number(), changes.len());
-        if self.make_all(changes).is_err() {
-            self.restart();
-            return Err(SurfaceError::Memory);
-        }
-        Ok(number)
-    }
-
-    /// Behaves like `add_changes` on borrowed changes, of which it logs clones.
-    pub fn add_lent_changes(&mut self, changes: &[Change]) -> Result<SequenceNo, SurfaceError>
-        ensures adds { Adds (measure W.width_of self.old.widths)
-            self.old (map change_value changes.now)
-            (next_number self.old.log - 1 + length changes.now) result self.new }
-        ensures empty { length changes.now ≡ 0 → IsOk result }
-        // Viewers, numbers and rows hold, even after an error.
-        ensures preserves { Preserves (measure W.width_of) self.old self.new }
-    {
-        self.refuse(changes)?;
-        let number = number_for(self.log.next_number(), changes.len());
-        if self.make_lent(changes).is_err() {
-            self.restart();
-            return Err(SurfaceError::Memory);
-        }
-        Ok(number)
-    }
-
-    /// Makes the changes in order, as `add_changes` does, with links of the surface's own in place
-    /// of theirs: it shares no memory with what lent or made them.
-    pub(crate) fn add_own_changes(
-        &mut self,
-        changes: CowSlice<'_, Change>,
-    ) -> Result<SequenceNo, SurfaceError>
-        ensures adds { Adds (measure W.width_of self.old.widths)
-            self.old (stream_of changes.entry)
-            (next_number self.old.log - 1 + length (stream_of changes.entry)) result self.new }
-        // Viewers, numbers and rows hold, even after an error.
-        ensures preserves { Preserves (measure W.width_of) self.old self.new }
-    {
-        self.refuse(changes.as_slice())?;
-        let number = number_for(self.log.next_number(), changes.as_slice().len());
-        if self.make_own(changes).is_err() {
-            self.restart();
-            return Err(SurfaceError::Memory);
-        }
-        Ok(number)
-    }
-}
-
-// The sequence number returned for `count` changes.
-#[inline(always)]
-fn number_for(coming: SequenceNo, count: usize) -> SequenceNo
-    requires { coming + count < 2 ^ 64 }
-    ensures { result ≡ coming - 1 + count }
-{
-    coming.saturating_sub(1) + count
 }

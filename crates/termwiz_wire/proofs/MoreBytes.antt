@@ -11,7 +11,7 @@ use Rattle.termwiz_wire.specs.Answers.{Halt, opened_at, head_at, answer_in, ask_
 use Rattle.termwiz_wire.specs.Decoding.{change_at}
 use Rattle.termwiz_wire.specs.MoreBytes.{halt, kind, IsCut, Goes}
 use Rattle.termwiz_wire.specs.Sent.{IsSent, answer}
-use Rattle.termwiz_wire.specs.Within.{IsWithin}
+use Rattle.termwiz_wire.specs.Within.{IsWithinLimits}
 use Rattle.termwiz_wire.specs.declared.fault.Fault.{Fault}
 use Rattle.termwiz_wire.specs.declared.fault.Limits.{Limits}
 use Rattle.termwiz_wire.specs.declared.sent.SentAnswer.{SentAnswer}
@@ -138,7 +138,7 @@ answers_go measure limits some = record {
   fault = fault_stays measure limits;
 }
 
-alone : (measure : List ℕ → ℕ) (limits : Limits) (a : SentAnswer) → IsSent measure a → IsWithin measure limits a → answer_at measure limits (answer measure a) ≡ Ok (a, [])
+alone : (measure : List ℕ → ℕ) (limits : Limits) (a : SentAnswer) → IsSent measure a → IsWithinLimits measure limits a → answer_at measure limits (answer measure a) ≡ Ok (a, [])
 unfolding answer_at
 alone measure limits a is within =
     let room : ℕ = limits.bytes - length (answer measure a) in
@@ -146,7 +146,7 @@ alone measure limits a is within =
     rw (take_all limits.bytes (answer measure a) within.bytes, drop_all limits.bytes (answer measure a) within.bytes)
     (ap (located (allowed room (answer measure a)) []) whole)
 
-pub answers_again : (measure : List ℕ → ℕ) (limits : Limits) (a : SentAnswer) (rest : List ℕ) → IsSent measure a → IsWithin measure limits a → answer_at measure limits (answer measure a ++ rest) ≡ Ok (a, rest)
+pub answers_again : (measure : List ℕ → ℕ) (limits : Limits) (a : SentAnswer) (rest : List ℕ) → IsSent measure a → IsWithinLimits measure limits a → answer_at measure limits (answer measure a ++ rest) ≡ Ok (a, rest)
 answers_again measure limits a rest is within = value_stays measure limits (answer measure a) rest a [] (alone measure limits a is within)
 
 -- ---- beginnings
@@ -155,7 +155,7 @@ located_fails : {A : Type 0} (a : ℕ) (past : List ℕ) (r : Result (A × List 
 located_fails a past (Ok x) fails = fails
 located_fails a past (Err h) fails = fails
 
-pub answers_begin : (measure : List ℕ → ℕ) (limits : Limits) (a : SentAnswer) (k : ℕ) → IsSent measure a → IsWithin measure limits a → k < length (answer measure a) → FailsBy kind Truncated (answer_at measure limits (take k (answer measure a)))
+pub answers_begin : (measure : List ℕ → ℕ) (limits : Limits) (a : SentAnswer) (k : ℕ) → IsSent measure a → IsWithinLimits measure limits a → k < length (answer measure a) → FailsBy kind Truncated (answer_at measure limits (take k (answer measure a)))
 unfolding answer_at
 answers_begin measure limits a k is within lt =
     let front : List ℕ = take k (answer measure a) in

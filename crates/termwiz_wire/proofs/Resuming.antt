@@ -21,7 +21,7 @@ use Rattle.termwiz_cell.specs.Link.{Link}
 use Rattle.termwiz_wire.specs.Work.{bears, cost, most_work, spent_on, work}
 use Rattle.termwiz_wire.proofs.Bounds.{spent_more}
 use Rattle.termwiz_wire.specs.Encoding.{change}
-use Rattle.termwiz_wire.specs.Resuming.{AreWithin, BeginsChange, ChangePart, EndsIn, GoesOn, HasGoneOn, HasReached, HasReadOn, HasReadRuns, IsChangePart, IsCut, IsUnfinished, IsWholeText, LeadsOn, ReachesBy, ReachesItem, ReachesRun, ReadsRuns, Resumes, WithNext, WithWhole, change_part, change_rest_at, left_at, rest_at, resumed_by, resumed_in}
+use Rattle.termwiz_wire.specs.Resuming.{AreWithin, BeginsChange, ChangePart, EndsIn, DecodesOn, HasGoneOn, HasReached, HasReadOn, HasReadRuns, IsChangePart, IsCut, IsUnfinished, IsWholeText, LeadsOn, ReachesBy, ReachesItem, ReachesRun, ReadsRuns, Resumes, WithNext, WithWhole, change_part, change_rest_at, left_at, rest_at, resumed_by, resumed_in}
 use Rattle.termwiz_wire.specs.Resuming as parts
 use Rattle.termwiz_wire.specs.Lent.{lent_answer}
 use Rattle.termwiz_wire.specs.Sent.{answer}
@@ -472,16 +472,16 @@ module _ (measure : List ℕ → ℕ) (limits : Limits) (bytes : List ℕ) where
 
       module _ (r : ℕ) (first : List ℕ) (before more : List ChangeValue) (later : ℕ) (rest : List ℕ) (r_is : r ≡ room) (before_is : before ≡ made) (first_is : first ≡ start) where
         abbrev Goes : Result Bool Halted → Type 0
-        Goes result = GoesOn measure r begun.head before first result more (allowed later rest) rest
+        Goes result = DecodesOn measure r begun.head before first result more (allowed later rest) rest
 
         abbrev GoesHere : Result Bool Halted → Type 0
-        GoesHere result = GoesOn measure room begun.head made start result more (allowed later rest) rest
+        GoesHere result = DecodesOn measure room begun.head made start result more (allowed later rest) rest
 
         goes_here : (result : Result Bool Halted) → Goes result → GoesHere result
         goes_here result goes =
-            subst (λ (t : List ℕ). GoesOn measure room begun.head made t result more (allowed later rest) rest) first_is
-            (subst (λ (n : ℕ). GoesOn measure n begun.head made first result more (allowed later rest) rest) r_is
-            (subst (λ (cs : List ChangeValue). GoesOn measure r begun.head cs first result more (allowed later rest) rest) before_is goes))
+            subst (λ (t : List ℕ). DecodesOn measure room begun.head made t result more (allowed later rest) rest) first_is
+            (subst (λ (n : ℕ). DecodesOn measure n begun.head made first result more (allowed later rest) rest) r_is
+            (subst (λ (cs : List ChangeValue). DecodesOn measure r begun.head cs first result more (allowed later rest) rest) before_is goes))
 
         -- all changes are there
         pub goes_whole : (all : Bool) → all ≡ true → Goes (Ok all) → answer_in measure room limits hand ≡ Ok (sent_of begun.head more, rest)

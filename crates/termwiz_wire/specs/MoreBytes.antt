@@ -4,7 +4,7 @@ use Rattle.cbor.specs.declared.error.FaultKind.{FaultKind}
 use Rattle.cbor.specs.declared.error.FaultKind.TheVariants.{Limit, Truncated}
 use Rattle.termwiz_wire.specs.Answers.{Halt, answer_at}
 use Rattle.termwiz_wire.specs.Sent.{IsSent, answer}
-use Rattle.termwiz_wire.specs.Within.{IsBeyond, IsWithin}
+use Rattle.termwiz_wire.specs.Within.{IsBeyond, IsWithinLimits}
 use Rattle.termwiz_wire.specs.declared.fault.Fault.{Fault}
 use Rattle.termwiz_wire.specs.declared.fault.Limits.{Limits}
 use Rattle.termwiz_wire.specs.declared.sent.SentAnswer.{SentAnswer}
@@ -43,5 +43,5 @@ pub record Laws (measure : List ℕ → ℕ) (limits : Limits) : Type 0 where
       (a : SentAnswer) (rest : List ℕ) → IsSent measure a → IsBeyond measure limits a →
       (f : Fault) × (answer_at measure limits (answer measure a ++ rest) ≡ Err f) × (f.kind ≡ Limit)
   pub again :
-      (a : SentAnswer) (rest : List ℕ) → IsSent measure a → IsWithin measure limits a →
+      (a : SentAnswer) (rest : List ℕ) → IsSent measure a → IsWithinLimits measure limits a →
       answer_at measure limits (answer measure a ++ rest) ≡ Ok (a, rest)

@@ -193,16 +193,16 @@ pub record HasGoneOn (measure : List ℕ → ℕ) (room : ℕ) (head : Head) (ma
 
 -- the changes that were left are there, or one is cut, or decoding fails, with this many bytes
 -- allowed from there on
-abbrev pub GoesOn :
+abbrev pub DecodesOn :
     (List ℕ → ℕ) → ℕ → Head → List ChangeValue → List ℕ → Result Bool Halted → List ChangeValue →
     ℕ → List ℕ → Type 0
-GoesOn measure room head made bytes (Ok true) more allowed rest =
+DecodesOn measure room head made bytes (Ok true) more allowed rest =
     HasGoneOn measure room head made bytes more rest ×
     (left_at measure room head made bytes ≡ Ok (more, rest))
-GoesOn measure room head made bytes (Ok false) more allowed rest =
+DecodesOn measure room head made bytes (Ok false) more allowed rest =
     HasGoneOn measure room head made bytes more rest × (length more < head.count) ×
     IsCut (next_at measure room (Some head) (spent_on (Some head) more) rest)
-GoesOn measure room head made bytes (Err h) more allowed rest =
+DecodesOn measure room head made bytes (Err h) more allowed rest =
     (h.error ≢ read_errors.Truncated) ×
     IfSome (fault_of h.error)
     (λ f. left_at measure room head made bytes ≡

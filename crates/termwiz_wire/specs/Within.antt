@@ -15,7 +15,7 @@ abbrev pub IsBorne : SentAnswer → Type 0
 IsBorne s = answer_work s ≤ most_work s.answer.width s.answer.height
 
 -- an answer that is decoded within these limits
-pub record IsWithin (measure : List ℕ → ℕ) (limits : Limits) (s : SentAnswer) : Type 0 where
+pub record IsWithinLimits (measure : List ℕ → ℕ) (limits : Limits) (s : SentAnswer) : Type 0 where
   pub screen : FitsLimits limits s.answer.width s.answer.height
   pub bytes : length (answer measure s) ≤ limits.bytes
   pub borne : IsBorne s

@@ -7,7 +7,7 @@ ghost use Rattle.termwiz_wire.specs.Answers.{changes_at, changes_in, one_change_
 ghost use Rattle.termwiz_wire.specs.Decoding.{change_at};
 ghost use Rattle.termwiz_wire.specs.MoreBytes.{Laws, halt, kind};
 ghost use Rattle.termwiz_wire.specs.Sent.{IsSent, answer};
-ghost use Rattle.termwiz_wire.specs.Within.{IsWithin};
+ghost use Rattle.termwiz_wire.specs.Within.{IsWithinLimits};
 ghost use Rattle.termwiz_wire.specs.declared.decode.heads.Head.{Head};
 ghost use Rattle.termwiz_wire.specs.declared.fault.Limits.{Limits};
 ghost use Rattle.termwiz_wire.specs.declared.sent.SentAnswer.{SentAnswer};
@@ -49,6 +49,6 @@ pub fn answers()
     ensures laws { (measure : List ℕ → ℕ) (limits : Limits) → 0 < limits.bytes →
         Laws measure limits }
     ensures truncated { (measure : List ℕ → ℕ) (limits : Limits) (a : SentAnswer) (k : ℕ) →
-        IsSent measure a → IsWithin measure limits a → k < length (answer measure a) →
+        IsSent measure a → IsWithinLimits measure limits a → k < length (answer measure a) →
         FailsBy kind Truncated (answer_at measure limits (take k (answer measure a))) }
 {}

@@ -12,7 +12,7 @@ use Rattle.termwiz_wire.specs.Sent.{ask}
 use Rattle.termwiz_wire.specs.declared.sent.Ask.{Ask}
 use Rattle.tikeburo_c.proofs.Delivered.{Asked, IsReadyIn, asks_by, named_response}
 use Rattle.tikeburo_c.specs.Outcomes.{Outcome}
-use Rattle.tikeburo_c.specs.Results.{Buffer, Gives, OnClient}
+use Rattle.tikeburo_c.specs.Results.{Buffer, GivesInto, OnClient}
 use Rattle.tikeburo_c.specs.Streams.{AnswersIn, FeedsIn, GivesAsk, MayCarry, Reaches, Resets, ServesIn, ShowsAsBefore, named_ask}
 use Rattle.tikeburo_c.specs.declared.clients.FaultFields.{FaultFields}
 use Rattle.tikeburo_c.specs.declared.failure.Failure.TheVariants.{Memory, Unreadable, Truncated, Region, Numbers, NoHandle, WrongKind, Range, Short, OtherWidths}
@@ -40,7 +40,7 @@ reset_done None client new outcome none resets = absurd none
 -- ---- it asks
 
 -- bytes are given, or the buffer is too short for them
-gives_ends : (bytes : List ℕ) (old new : Buffer) (outcome : Outcome) → Gives bytes old outcome new → (outcome ≡ Ok tt) ⊎ ((outcome ≡ Err Short) × (length old.0 < length bytes))
+gives_ends : (bytes : List ℕ) (old new : Buffer) (outcome : Outcome) → GivesInto bytes old outcome new → (outcome ≡ Ok tt) ⊎ ((outcome ≡ Err Short) × (length old.0 < length bytes))
 gives_ends bytes old new (Ok u) gives = inl refl
 gives_ends bytes old new (Err Short) gives = inr (refl, gives.0)
 gives_ends bytes old new (Err Memory) gives = absurd gives

@@ -2,7 +2,7 @@
 use Rattle.std.proofs.Common.{◌≡◌, inl, inr, ℕ, ℤ, pos, List, ◌++◌, length, take, refl, sym, ap, ◌∙◌, subst}
 use Rattle.std.proofs.Math.Seq.{take-append_seam}
 use Rattle.std.proofs.lemmas.Bool.{cases_Bool}
-use Rattle.std.specs.Prelude.{Option, Some, None, Result, Ok, Err, ◌==◌}
+use Rattle.std.specs.Prelude.{Option, Some, None, Ok, Err, ◌==◌}
 use Rattle.termwiz_share.specs.Client.{ClientValue, IsReady, ask_of}
 use Rattle.termwiz_share.specs.Serving.{Serves}
 use Rattle.termwiz_share.specs.Source.{IsResponse, SourceValue}
@@ -12,7 +12,7 @@ use Rattle.termwiz_wire.specs.Sent.{IsAsk, ask}
 use Rattle.termwiz_wire.specs.declared.sent.Ask.{Ask}
 use Rattle.tikeburo_c.specs.Outcomes.{Outcome, Reports, status_of}
 use Rattle.tikeburo_c.specs.Results.{Buffer, OnClient}
-use Rattle.tikeburo_c.specs.Streams.{AnswersAsk, AnswersIn, Fails, FeedsIn, GivesAsk, Resets, RespondsIn, ServesIn, ShowsIn, named_ask}
+use Rattle.tikeburo_c.specs.Streams.{AnswersAsk, AnswersIn, FailsInto, FeedsIn, GivesAsk, Resets, RespondsIn, ServesIn, ShowsIn, named_ask}
 use Rattle.tikeburo_c.specs.Widths.{columns_by}
 use Rattle.tikeburo_c.specs.declared.clients.FaultFields.{FaultFields}
 use Rattle.tikeburo_c.specs.declared.failure.Failure.{Failure}
@@ -168,7 +168,7 @@ responded bytes None client new old_room new_room none a answers = absurd none
 
 -- ---- the client is fed
 
-no_failure : (e : ClientError) (old new : FaultFields) → Fails e old (Ok tt) new → ⊥
+no_failure : (e : ClientError) (old new : FaultFields) → FailsInto e old (Ok tt) new → ⊥
 no_failure (errors.Fault e) old new fails = cc
 no_failure (errors.Size at) old new fails = cc
 no_failure errors.Numbers old new fails = cc

@@ -1,6 +1,6 @@
 -- Rows that listed changes scroll off, where none is made.
 use Rattle.std.proofs.Common.{◌≡◌, ◌⊎◌, inl, inr, ℕ, List, [], append-nil, refl, sym, subst}
-use Rattle.std.specs.Prelude.{Result, Ok, Err}
+use Rattle.std.specs.Prelude.{Ok, Err}
 use Rattle.termwiz_line.specs.LineValue.{LineValue}
 use Rattle.termwiz_surface.specs.ScrolledOff.{BeginsRows, ShownRow}
 use Rattle.termwiz_surface.specs.Surface.{SurfaceValue}

@@ -12,7 +12,7 @@ use Rattle.termwiz_surface.specs.{texts_of}
 use Rattle.termwiz_surface.specs.Surface.{IsSound, SurfaceValue}
 use Rattle.tikeburo_c.specs.Cells.{GivesRow}
 use Rattle.tikeburo_c.specs.Outcomes.{Outcome}
-use Rattle.tikeburo_c.specs.Results.{Buffer, Gives, OrNoMemory}
+use Rattle.tikeburo_c.specs.Results.{Buffer, GivesInto, OrNoMemory}
 use Rattle.tikeburo_c.specs.declared.widths.ChosenWidths.{ChosenWidths}
 
 module _ (s : SurfaceValue ChosenWidths) (row : ℕ) where
@@ -25,7 +25,7 @@ module _ (s : SurfaceValue ChosenWidths) (row : ℕ) where
       resized_is_row s.width cs (record { width = refl; settled = λ k l t. z.halves k (omega (arith, l, z.within)) t })
 
   module _ (old : Buffer) (outcome : Outcome) (new : Buffer) where
-    pub gives_filled : (measure : List ℕ → ℕ) (cs ds : List CellValue) (w : ℕ) → IsSound measure s → slice_get s.lines row ≡ Some cs → w ≡ s.width → ds ≡ resized w cs → OrNoMemory (Gives (texts_of (visible ds))) old outcome new → GivesRow true row s old outcome new
+    pub gives_filled : (measure : List ℕ → ℕ) (cs ds : List CellValue) (w : ℕ) → IsSound measure s → slice_get s.lines row ≡ Some cs → w ≡ s.width → ds ≡ resized w cs → OrNoMemory (GivesInto (texts_of (visible ds))) old outcome new → GivesRow true row s old outcome new
     gives_filled measure cs ds w sound e wide is h =
         rw (slice_get-map (row_of s.width) s.lines row ∙ ap (option_map (row_of s.width)) e)
-        (subst (λ xs. OrNoMemory (Gives (texts_of (visible xs))) old outcome new) (is ∙ ap (λ v. resized v cs) wide ∙ resized_row measure cs sound e) h)
+        (subst (λ xs. OrNoMemory (GivesInto (texts_of (visible xs))) old outcome new) (is ∙ ap (λ v. resized v cs) wide ∙ resized_row measure cs sound e) h)

@@ -7,7 +7,7 @@ use Rattle.termwiz_surface.specs.{LineFlags, line_attribute, stored, texts_of, v
 use Rattle.termwiz_surface.specs.Surface.{SurfaceValue, screen_of}
 use Rattle.tikeburo_c.specs.Fields.{cell_fields}
 use Rattle.tikeburo_c.specs.Outcomes.{Outcome}
-use Rattle.tikeburo_c.specs.Results.{Buffer, Gives, OrNoMemory, Refused, Returns}
+use Rattle.tikeburo_c.specs.Results.{Buffer, GivesInto, OrNoMemory, Refused, Returns}
 use Rattle.tikeburo_c.specs.declared.failure.Failure.TheVariants.{Range}
 use Rattle.tikeburo_c.specs.declared.fields.CellFields.{CellFields}
 use Rattle.tikeburo_c.specs.declared.widths.ChosenWidths.{ChosenWidths}
@@ -21,7 +21,7 @@ abbrev pub GivesRow : Bool → ℕ → SurfaceValue ChosenWidths → Buffer → 
 GivesRow filled row s = of_row (row_in filled row s)
   where
     of_row : Option (List CellValue) → Buffer → Outcome → Buffer → Type 0
-    of_row (Some cells) = OrNoMemory (Gives (texts_of (visible cells)))
+    of_row (Some cells) = OrNoMemory (GivesInto (texts_of (visible cells)))
     of_row None = Refused Range
 
 -- how large a row that there is is shown
@@ -46,7 +46,7 @@ CellPlace = CellFields × Buffer
 
 abbrev pub GivesCell : Option CellValue → CellPlace → Outcome → CellPlace → Type 0
 GivesCell (Some cell) old outcome new =
-    Gives cell.text old.1 outcome new.1 × OnOk outcome (new.0 ≡ cell_fields cell) ×
+    GivesInto cell.text old.1 outcome new.1 × OnOk outcome (new.0 ≡ cell_fields cell) ×
     OnErr outcome (new.0 ≡ old.0)
 GivesCell None old outcome new = Refused Range old outcome new
 
@@ -56,5 +56,5 @@ uri_of (Some link) = link.uri
 uri_of None = []
 
 abbrev pub GivesLink : Option CellValue → Buffer → Outcome → Buffer → Type 0
-GivesLink (Some cell) = Gives (uri_of cell.attrs.hyperlink)
+GivesLink (Some cell) = GivesInto (uri_of cell.attrs.hyperlink)
 GivesLink None = Refused Range

@@ -20,9 +20,9 @@ use Rattle.tikeburo_c.specs.declared.failure.Failure.TheVariants.{Memory}
 use Rattle.tikeburo_c.specs.declared.widths.ChosenWidths.{ChosenWidths}
 
 -- the list of changes is added as the library adds it, whatever number that returns
-abbrev pub AddsList :
+abbrev pub AddsChanges :
     List ChangeValue → SourceValue ChosenWidths → Outcome → SourceValue ChosenWidths → Type 0
-AddsList changes old outcome new =
+AddsChanges changes old outcome new =
     (number : ℕ) × (added : Result ℕ SurfaceError) × (outcome ≡ outcome_of changing_failure added) ×
     Adds (columns_by old.surface.widths) (trimmed old.surface) changes number added new.surface ×
     PreservesServing columns_by old new
@@ -33,7 +33,8 @@ abbrev pub AddsListUnlogged :
     List ChangeValue → SourceValue ChosenWidths → Outcome → SourceValue ChosenWidths → Type 0
 AddsListUnlogged changes old outcome new =
     (number : ℕ) × (added : Result ℕ SurfaceError) × (outcome ≡ outcome_of changing_failure added) ×
-    AddsUnlogged (columns_by old.surface.widths) old.surface changes number added new.surface ×
+    AddsUnlogged (columns_by old.surface.widths) (trimmed old.surface) changes number added
+    new.surface ×
     PreservesServing columns_by old new
 
 -- the one list that the bytes encode, with nothing after it
@@ -52,7 +53,7 @@ abbrev pub AddsEncoded :
     List ℕ → SourceValue ChosenWidths → Outcome → SourceValue ChosenWidths → Type 0
 AddsEncoded bytes old outcome new =
     (cs : List ChangeValue) × (bytes ≡ changes (columns_by old.surface.widths) cs) ×
-    AddsList cs old outcome new
+    AddsChanges cs old outcome new
 
 -- the one list of changes that the bytes encode, by how the surface measures, is added, unless
 -- memory for it was refused
@@ -60,7 +61,7 @@ pub record AddsBytes (bytes : List ℕ) (old : SourceValue ChosenWidths) (outcom
     (new : SourceValue ChosenWidths) : Type 0 where
   pub adds :
       (cs : List ChangeValue) → AreChanges (columns_by old.surface.widths) cs →
-      bytes ≡ changes (columns_by old.surface.widths) cs → OrNoMemory (AddsList cs) old outcome new
+      bytes ≡ changes (columns_by old.surface.widths) cs → OrNoMemory (AddsChanges cs) old outcome new
   -- whatever the bytes are, they are refused by what is wrong with them, or encode a list that is
   -- added
   pub others :

@@ -7,7 +7,7 @@ use Rattle.termwiz_surface.specs.Surface.{SurfaceValue, screen_of}
 use Rattle.tikeburo_c.specs.Getting.{GivesAll, ListPlace}
 use Rattle.tikeburo_c.specs.Kept.{shown_of}
 use Rattle.tikeburo_c.specs.Outcomes.{Outcome}
-use Rattle.tikeburo_c.specs.Results.{Reads, Refused, OfKind, OrNoMemory}
+use Rattle.tikeburo_c.specs.Results.{ReadsInto, Refused, OfKind, OrNoMemory}
 use Rattle.tikeburo_c.specs.SameWidths.{WhereSame}
 use Rattle.tikeburo_c.specs.Widths.{columns_by}
 use Rattle.tikeburo_c.specs.declared.failure.Failure.TheVariants.{NoHandle}
@@ -38,17 +38,17 @@ pub record IsScreensDiff (s t : SurfaceValue ChosenWidths) (changes : List Chang
       changes ≡ []
 
 -- the diff in a region, or where none is named, that of all
-abbrev pub IsDiff :
+abbrev pub IsWrittenDiff :
     Option Region → SurfaceValue ChosenWidths → SurfaceValue ChosenWidths → List ChangeValue →
     Type 0
-IsDiff (Some r) = IsRegionDiff r
-IsDiff None = IsScreensDiff
+IsWrittenDiff (Some r) = IsRegionDiff r
+IsWrittenDiff None = IsScreensDiff
 
 -- it is given as a list, which leads to no number
 pub record GivesDiff (region : Option Region) (s t : SurfaceValue ChosenWidths) (old : ListPlace)
     (outcome : Outcome) (new : ListPlace) : Type 0 where
   pub changes : List ChangeValue
-  pub is_diff : IsDiff region s t changes
+  pub is_diff : IsWrittenDiff region s t changes
   pub gives : GivesAll changes 0 old outcome new
 
 -- where both measure by the same widths, unless memory was refused first
@@ -62,5 +62,5 @@ abbrev pub ReadsBoth :
     {B : Type 0} →
     (SurfaceValue ChosenWidths → SurfaceValue ChosenWidths → B → Outcome → B → Type 0) →
     Option Kept → Option Kept → B → Outcome → B → Type 0
-ReadsBoth P own (Some other) = OfKind (λ t. Reads (λ s. P s t) own) (shown_of other)
+ReadsBoth P own (Some other) = OfKind (λ t. ReadsInto (λ s. P s t) own) (shown_of other)
 ReadsBoth P own None = Refused NoHandle

@@ -29,10 +29,10 @@ pub record DrawsAs (source : SurfaceValue ChosenWidths) (r : Region) (old : Sour
   pub no_scroll : result ≡ Err ScrollRegion → ⊥
   pub preserves : PreservesServing columns_by old new
 
-abbrev pub Draws :
+abbrev pub DrawsFor :
     SurfaceValue ChosenWidths → Region → SourceValue ChosenWidths → Outcome →
     SourceValue ChosenWidths → Type 0
-Draws source r old outcome new =
+DrawsFor source r old outcome new =
     (result : Result ℕ SurfaceError) × (outcome ≡ outcome_of changing_failure result) ×
     DrawsAs source r old result new
 
@@ -40,7 +40,7 @@ Draws source r old outcome new =
 abbrev pub DrawsSame :
     SurfaceValue ChosenWidths → Region → SourceValue ChosenWidths → Outcome →
     SourceValue ChosenWidths → Type 0
-DrawsSame source r old = WhereSame source.widths old.surface.widths (Draws source r) old
+DrawsSame source r old = WhereSame source.widths old.surface.widths (DrawsFor source r) old
 
 abbrev pub DrawsSource : Option Kept → Region → Option Kept → Outcome → Option Kept → Type 0
 DrawsSource (Some source) r = OfKind (λ s. OnSurface (DrawsSame s r)) (shown_of source)

@@ -10,7 +10,7 @@ use Rattle.termwiz_share.specs.Source.{SourceValue}
 use Rattle.termwiz_surface.specs.Diffs.{HaveRow, one_row, screen_after}
 use Rattle.termwiz_surface.specs.Measuring.{AreMeasured}
 use Rattle.termwiz_surface.specs.Surface.{SurfaceValue, screen_of}
-use Rattle.tikeburo_c.specs.Changes.{AddsList}
+use Rattle.tikeburo_c.specs.Changes.{AddsChanges}
 use Rattle.tikeburo_c.specs.Kept.{lines_of}
 use Rattle.tikeburo_c.specs.Outcomes.{Outcome}
 use Rattle.tikeburo_c.specs.Results.{OfKind, OnSurface, OrNoMemory, Refused}
@@ -37,7 +37,7 @@ HasLine s row cells rows = HaveRow rows (screen_of s).rows s.height row (row_of 
 -- a line is drawn on a row
 pub record DrawsLineAs (row : ℕ) (cells : List CellValue) (old : SourceValue ChosenWidths)
     (outcome : Outcome) (new : SourceValue ChosenWidths) : Type 0 where
-  pub drawn : AddsList (line_drawing old.surface row cells) old outcome new
+  pub drawn : AddsChanges (line_drawing old.surface row cells) old outcome new
   -- all but the rows is as before
   pub restores :
       OnOk outcome

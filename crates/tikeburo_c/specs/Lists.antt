@@ -13,7 +13,7 @@ use Rattle.termwiz_cell.specs.Link.{Link}
 use Rattle.termwiz_cell.specs.declared.change.Position.{Position}
 use Rattle.termwiz_cell.specs.declared.change.Position.TheVariants.{Absolute, EndRelative, Relative}
 use Rattle.termwiz_share.specs.Source.{SourceValue}
-use Rattle.tikeburo_c.specs.Changes.{AddsList, AddsListUnlogged}
+use Rattle.tikeburo_c.specs.Changes.{AddsChanges, AddsListUnlogged}
 use Rattle.tikeburo_c.specs.Fields.{attributes_in, color_in}
 use Rattle.tikeburo_c.specs.Numbers.{blink_in, intensity_in, line_in, numbered, shape_in, underline_in}
 use Rattle.tikeburo_c.specs.Outcomes.{Outcome}
@@ -187,7 +187,7 @@ AddsListed fs texts = of (listed_in fs texts)
     of :
         Result (List ChangeValue) Failure → SourceValue ChosenWidths → Outcome →
         SourceValue ChosenWidths → Type 0
-    of (Ok cs) = OrNoMemory (AddsList cs)
+    of (Ok cs) = OrNoMemory (AddsChanges cs)
     of (Err failure) = OrNoMemory (Refused failure)
 
 -- or they are made without being logged

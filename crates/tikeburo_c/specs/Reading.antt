@@ -6,14 +6,14 @@ use Rattle.termwiz_screen.specs.ShownChars.{shown_chars}
 use Rattle.termwiz_surface.specs.Surface.{SurfaceValue, lengths_of, screen_of}
 use Rattle.tikeburo_c.specs.Handles.{kept_of}
 use Rattle.tikeburo_c.specs.Outcomes.{Reports}
-use Rattle.tikeburo_c.specs.Results.{Reads, Returns}
+use Rattle.tikeburo_c.specs.Results.{ReadsInto, Returns}
 use Rattle.tikeburo_c.specs.declared.handle.Handle.{Handle}
 use Rattle.tikeburo_c.specs.declared.widths.ChosenWidths.{ChosenWidths}
 
 -- the call returned this value of the surface that the handle has or its viewer shows
 abbrev pub ReadsValue : {B : Type 0} → (SurfaceValue ChosenWidths → B) → Handle → B → ℤ → B → Type 0
 ReadsValue read handle old number new =
-    Reports number (λ outcome. Reads (λ s. Returns (read s)) (kept_of handle) old outcome new)
+    Reports number (λ outcome. ReadsInto (λ s. Returns (read s)) (kept_of handle) old outcome new)
 
 abbrev pub is_visible : CursorVisibility → Bool
 is_visible Hidden = false

@@ -85,11 +85,11 @@ OfKind P (Some s) = P s
 OfKind P None = Refused WrongKind
 
 -- the call read this of the surface that the handle has, or that its viewer or client shows
-abbrev pub Reads :
+abbrev pub ReadsInto :
     {B : Type 0} → (SurfaceValue ChosenWidths → B → Outcome → B → Type 0) → Option Kept → B →
     Outcome → B → Type 0
-Reads P (Some kept) old outcome new = OfKind P (shown_of kept) old outcome new
-Reads P None old outcome new = Refused NoHandle old outcome new
+ReadsInto P (Some kept) old outcome new = OfKind P (shown_of kept) old outcome new
+ReadsInto P None old outcome new = Refused NoHandle old outcome new
 
 -- the call read this of the lines that the handle has
 abbrev pub ReadsLines :
@@ -108,10 +108,10 @@ Buffer = List ℕ × ℕ
 
 -- the bytes are at the buffer's front, with their length, or the buffer is too short and has only
 -- their length
-abbrev pub Gives : List ℕ → Buffer → Outcome → Buffer → Type 0
-Gives bytes old (Ok _) new =
+abbrev pub GivesInto : List ℕ → Buffer → Outcome → Buffer → Type 0
+GivesInto bytes old (Ok _) new =
     (length bytes ≤ length old.0) × (new.0 ≡ bytes ++ drop (length bytes) old.0) ×
     (new.1 ≡ length bytes)
-Gives bytes old (Err Short) new =
+GivesInto bytes old (Err Short) new =
     (length old.0 < length bytes) × (new.0 ≡ old.0) × (new.1 ≡ length bytes)
-Gives bytes old (Err _) new = ⊥
+GivesInto bytes old (Err _) new = ⊥

@@ -85,7 +85,7 @@ counts_of v = record {
 }
 
 -- each array is long enough
-pub record HasRoom (v : RowValue) (place : RowPlace) : Type 0 where
+pub record HasRoomFor (v : RowValue) (place : RowPlace) : Type 0 where
   pub cells : length v.cells ≤ length place.cells
   pub attributes : length v.attributes ≤ length place.attributes
   pub text : length v.text ≤ length place.text
@@ -101,14 +101,14 @@ overwritten at xs room = take at room ++ (xs ++ drop (at + length xs) room)
 -- all is at the arrays' fronts, with their counts, or one of them is too short and there are only
 -- the counts
 abbrev pub GivesParts : RowValue → RowPlace → Outcome → RowPlace → Type 0
-GivesParts v old (Ok _) new = HasRoom v old × (new ≡ record {
+GivesParts v old (Ok _) new = HasRoomFor v old × (new ≡ record {
   cells = at_front v.cells old.cells;
   attributes = at_front v.attributes old.attributes;
   text = at_front v.text old.text;
   counts = counts_of v;
 })
 GivesParts v old (Err Short) new =
-    (HasRoom v old → ⊥) × (new ≡ record old { counts = counts_of v })
+    (HasRoomFor v old → ⊥) × (new ≡ record old { counts = counts_of v })
 GivesParts v old (Err _) new = ⊥
 
 -- of a row that there is, the visible cells within its stored length

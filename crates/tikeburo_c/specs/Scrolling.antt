@@ -8,7 +8,7 @@ use Rattle.termwiz_surface.specs.Surface.{SurfaceValue, kept_of, screen_of}
 use Rattle.tikeburo_c.specs.Kept.{lines_of}
 use Rattle.tikeburo_c.specs.Lists.{AddsListed, AddsListedUnlogged, listed_in}
 use Rattle.tikeburo_c.specs.Outcomes.{Outcome}
-use Rattle.tikeburo_c.specs.Results.{OfKind, Refused}
+use Rattle.tikeburo_c.specs.Results.{OfKind, OnLines, Refused}
 use Rattle.tikeburo_c.specs.Widths.{columns_by}
 use Rattle.tikeburo_c.specs.declared.failure.Failure.{Failure}
 use Rattle.tikeburo_c.specs.declared.failure.Failure.TheVariants.{Memory, NoHandle}
@@ -60,6 +60,20 @@ abbrev pub WithLines :
     Option Kept → Type 0
 WithLines (Some kept) P = OfKind (λ lines. P) (lines_of kept)
 WithLines None P = Refused NoHandle
+
+-- where lines are kept, the call did this if the handle has lines, and elsewhere in any case
+abbrev pub WithLinesIf :
+    Bool → Option Kept → (Option Kept → Outcome → Option Kept → Type 0) → Option Kept → Outcome →
+    Option Kept → Type 0
+WithLinesIf true kept P = WithLines kept P
+WithLinesIf false kept P = P
+
+-- where lines are kept, the call did this to the lines that the handle has, and elsewhere nothing
+abbrev pub OnLinesIf :
+    Bool → (List LineValue → Outcome → List LineValue → Type 0) → Option Kept → Outcome →
+    Option Kept → Type 0
+OnLinesIf true P old outcome new = OnLines P old outcome new
+OnLinesIf false P old outcome new = new ≡ old
 
 -- the listed changes are made, and logged or not
 abbrev pub AddsListedAs :

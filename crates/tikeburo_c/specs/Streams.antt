@@ -3,9 +3,9 @@ use Rattle.std.specs.Prelude.{◌≡◌, ◌⊎◌, ℕ, ◌<◌, true, false, R
 use Rattle.cbor.specs.declared.error.FaultKind.{FaultKind}
 use Rattle.cbor.specs.declared.error.FaultKind.TheVariants as faults
 use Rattle.termwiz_share.specs.Client.{ClientValue, IsReady, ask_of}
-use Rattle.termwiz_share.specs.Feeding.{Feeds, Keeps, TakesNext}
-use Rattle.termwiz_share.specs.Histories.{Follows, FollowsNext, FollowsTo, Given}
-use Rattle.termwiz_share.specs.Serving.{KeepsSources, PreservesServing, Serves, Shows}
+use Rattle.termwiz_share.specs.Feeding.{Feeds, KeepsPiece, TakesNext}
+use Rattle.termwiz_share.specs.Histories.{ClientFollows, FollowsNext, ClientFollowsTo, Given}
+use Rattle.termwiz_share.specs.Serving.{KeepsSources, PreservesServing, Serves, ShowsSource}
 use Rattle.termwiz_share.specs.Source.{IsResponse, SourceValue, response_bytes, trimmed}
 use Rattle.termwiz_share.specs.declared.error.ClientError.{ClientError}
 use Rattle.termwiz_share.specs.declared.error.ClientError.TheVariants as errors
@@ -18,7 +18,7 @@ use Rattle.termwiz_wire.specs.Answers.{ask_at}
 use Rattle.termwiz_wire.specs.Sent.{IsAsk, ask}
 use Rattle.termwiz_wire.specs.declared.sent.Ask.{Ask}
 use Rattle.tikeburo_c.specs.Outcomes.{Outcome, unread_as}
-use Rattle.tikeburo_c.specs.Results.{Buffer, Gives, OnClientAnd, OrNoMemory, Refused}
+use Rattle.tikeburo_c.specs.Results.{Buffer, GivesInto, OnClientAnd, OrNoMemory, Refused}
 use Rattle.tikeburo_c.specs.Widths.{columns_by}
 use Rattle.tikeburo_c.specs.declared.clients.FaultFields.{FaultFields}
 use Rattle.tikeburo_c.specs.declared.clients.TakenFields.{TakenFields}
@@ -47,7 +47,7 @@ pub record AnswersAsk (a : Ask) (old : Answering) (outcome : Outcome) (new : Ans
   pub bytes : List ℕ
   pub response : IsResponse columns_by new.0 a bytes
   pub given : bytes ≡ response_bytes columns_by new.0 a
-  pub gives : Gives bytes old.1 outcome new.1
+  pub gives : GivesInto bytes old.1 outcome new.1
   pub trims : new.0 ≡ record old.0 { surface = trimmed old.0.surface }
   pub preserves : PreservesServing columns_by old.0 new.0
 
@@ -104,17 +104,17 @@ taken_fields (Some shows.Shown) = record { kind = 1; at = 0 }
 taken_fields (Some (shows.Stale at)) = record { kind = 2; at = at }
 
 -- what a call of a client came to, and what it wrote to the struct of a fault
-abbrev pub Fails : ClientError → FaultFields → Outcome → FaultFields → Type 0
-Fails (errors.Fault f) old outcome new =
+abbrev pub FailsInto : ClientError → FaultFields → Outcome → FaultFields → Type 0
+FailsInto (errors.Fault f) old outcome new =
     (outcome ≡ Err Unreadable) × (new ≡ fields_at (fault_number f.kind) f.at f.change)
-Fails (errors.Size at) old outcome new = (outcome ≡ Err Unreadable) × (new ≡ fields_at 5 at None)
-Fails errors.Numbers old outcome new = (outcome ≡ Err Numbers) × (new ≡ old)
-Fails errors.Memory old outcome new = (outcome ≡ Err Memory) × (new ≡ old)
+FailsInto (errors.Size at) old outcome new = (outcome ≡ Err Unreadable) × (new ≡ fields_at 5 at None)
+FailsInto errors.Numbers old outcome new = (outcome ≡ Err Numbers) × (new ≡ old)
+FailsInto errors.Memory old outcome new = (outcome ≡ Err Memory) × (new ≡ old)
 
 abbrev pub Reaches :
     {A : Type 0} → Result A ClientError → FaultFields → Outcome → FaultFields → Type 0
 Reaches (Ok x) old outcome new = (outcome ≡ Ok tt) × (new ≡ old)
-Reaches (Err error) old outcome new = Fails error old outcome new
+Reaches (Err error) old outcome new = FailsInto error old outcome new
 
 -- what it wrote beside that: nothing where it failed
 abbrev pub Writes : {A B : Type 0} → (A → B) → Result A ClientError → B → B → Type 0
@@ -127,13 +127,13 @@ pub record FeedsAs (piece : List ℕ) (old : ClientValue ChosenWidths)
   pub feeds : Feeds columns_by old piece result new
   pub follows :
       (histories : ℕ → ℕ → FullScreen) (sent : List Given) (future : List ℕ) →
-      Follows columns_by histories sent old (piece ++ future) →
-      FollowsTo columns_by histories sent future old result new
+      ClientFollows columns_by histories sent old (piece ++ future) →
+      ClientFollowsTo columns_by histories sent future old result new
   -- one that is fed the response to its ask shows what the source shows, and is served by it still,
   -- also after an error
   pub shows :
       (s : SourceValue ChosenWidths) → Serves columns_by s old → IsReady old →
-      IsResponse columns_by s (ask_of old) piece → OnOk result (Shows s new × IsReady new)
+      IsResponse columns_by s (ask_of old) piece → OnOk result (ShowsSource s new × IsReady new)
   pub serves :
       (s : SourceValue ChosenWidths) → Serves columns_by s old → IsReady old →
       IsResponse columns_by s (ask_of old) piece → Serves columns_by s new
@@ -156,11 +156,11 @@ FeedsIn piece = OnClientAnd (FeedsBytes piece)
 -- bytes are kept by a client as the library's clients keep them
 pub record KeepsAs (piece : List ℕ) (old : ClientValue ChosenWidths)
     (result : Result (Unit {0}) ClientError) (new : ClientValue ChosenWidths) : Type 0 where
-  pub keeps : Keeps old piece result new
+  pub keeps : KeepsPiece old piece result new
   pub follows :
       (histories : ℕ → ℕ → FullScreen) (sent : List Given) (future : List ℕ) →
-      Follows columns_by histories sent old (piece ++ future) →
-      OnOk result (Follows columns_by histories sent new future)
+      ClientFollows columns_by histories sent old (piece ++ future) →
+      OnOk result (ClientFollows columns_by histories sent new future)
   pub serves : KeepsSources columns_by old new
 
 -- a client, and a caller's struct for a fault
@@ -173,19 +173,19 @@ KeepsBytes piece old outcome new =
     KeepsAs piece old.0 result new.0
 
 -- the next answer is taken as the library's clients take it
-pub record TakesAs (old : ClientValue ChosenWidths) (result : Result (Option Taken) ClientError)
+pub record TakesNextAs (old : ClientValue ChosenWidths) (result : Result (Option Taken) ClientError)
     (new : ClientValue ChosenWidths) : Type 0 where
   pub takes : TakesNext columns_by old result new
   pub follows :
       (histories : ℕ → ℕ → FullScreen) (sent : List Given) (future : List ℕ) →
-      Follows columns_by histories sent old future →
+      ClientFollows columns_by histories sent old future →
       FollowsNext columns_by histories sent future old result new
   -- one that has the response to its ask shows what the source shows, and is served by it still,
   -- also after an error
   pub shows :
       (s : SourceValue ChosenWidths) → Serves columns_by s old → old.stopped ≡ None →
       IsResponse columns_by s (ask_of old) old.kept →
-      OnOk result ((result ≡ Ok (Some shows.Shown)) × Shows s new × IsReady new)
+      OnOk result ((result ≡ Ok (Some shows.Shown)) × ShowsSource s new × IsReady new)
   pub serves :
       (s : SourceValue ChosenWidths) → Serves columns_by s old → old.stopped ≡ None →
       IsResponse columns_by s (ask_of old) old.kept → Serves columns_by s new
@@ -195,10 +195,10 @@ pub record TakesAs (old : ClientValue ChosenWidths) (result : Result (Option Tak
 abbrev pub Taking : Type 0
 Taking = ClientValue ChosenWidths × (TakenFields × FaultFields)
 
-abbrev pub TakesOne : Taking → Outcome → Taking → Type 0
-TakesOne old outcome new =
+abbrev pub TakesNextInto : Taking → Outcome → Taking → Type 0
+TakesNextInto old outcome new =
     (result : Result (Option Taken) ClientError) × Reaches result old.1.1 outcome new.1.1 ×
-    Writes taken_fields result old.1.0 new.1.0 × TakesAs old.0 result new.0
+    Writes taken_fields result old.1.0 new.1.0 × TakesNextAs old.0 result new.0
 
 -- an ask that names no source has no number
 abbrev pub named_ask : Ask → Ask
@@ -206,7 +206,7 @@ named_ask a = if a.source == 0 then record { source = 0; number = 0 } else a
 
 -- this ask is given
 abbrev pub GivesOne : Ask → Buffer → Outcome → Buffer → Type 0
-GivesOne a old outcome new = IsAsk a × Gives (ask a) old outcome new
+GivesOne a old outcome new = IsAsk a × GivesInto (ask a) old outcome new
 
 -- an ask is given, of which the number has a source
 pub record MakesAsk (a : Ask) (old : Buffer) (outcome : Outcome) (new : Buffer) : Type 0 where
@@ -243,7 +243,7 @@ ServesIn _ _ = ⊥
 
 -- the client shows all that the surface keeps
 abbrev pub ShowsIn : Option Kept → Option Kept → Type 0
-ShowsIn (Some (Surface s)) (Some (Client c)) = Shows s c
+ShowsIn (Some (Surface s)) (Some (Client c)) = ShowsSource s c
 ShowsIn _ _ = ⊥
 
 -- the surface shows what it showed, and anything else is as it was

@@ -3,7 +3,7 @@ ghost use Rattle.std.specs.Prelude.{◌≡◌, Some};
 ghost use Rattle.std.specs.Fn.{FnOnceReturnsAt, FnOnceReturnsAtMut};
 ghost use Rattle.tikeburo_c.specs.Access.{Computes, FillsBy};
 ghost use Rattle.tikeburo_c.specs.Handles.{kept_of};
-ghost use Rattle.tikeburo_c.specs.Results.{OnLines, OnSurface, Reads};
+ghost use Rattle.tikeburo_c.specs.Results.{OnLines, OnSurface, ReadsInto};
 
 use crate::failure::Failure;
 use crate::handle::Handle;
@@ -84,7 +84,7 @@ pub(crate) fn read<T: Copy, F: FnOnce(&Surface<ChosenWidths>) -> T + Drop>(
     action: F,
 ) -> Result<(), Failure>
     requires { F.IsAlwaysCallable action }
-    ensures read { Reads (Computes (λ s x. FnOnceReturnsAt F.FnOnce action s x))
+    ensures read { ReadsInto (Computes (λ s x. FnOnceReturnsAt F.FnOnce action s x))
         (kept_of handle.old) value.old result value.new }
     ensures same { kept_of handle.new ≡ kept_of handle.old }
 {
@@ -102,7 +102,7 @@ fn read_kept<T: Copy, F: FnOnce(&Surface<ChosenWidths>) -> T + Drop>(
     action: F,
 ) -> Result<(), Failure>
     requires { F.IsAlwaysCallable action }
-    ensures { Reads (Computes (λ s x. FnOnceReturnsAt F.FnOnce action s x))
+    ensures { ReadsInto (Computes (λ s x. FnOnceReturnsAt F.FnOnce action s x))
         (Some kept.now) value.old result value.new }
 {
     let surface = kept.shown()?;
@@ -132,7 +132,7 @@ pub(crate) fn fill<
     action: F,
 ) -> Result<(), Failure>
     requires { F.IsAlwaysCallable action }
-    ensures read { Reads (λ s old outcome new. FillsBy F.FnOnce action s old outcome new)
+    ensures read { ReadsInto (λ s old outcome new. FillsBy F.FnOnce action s old outcome new)
         (kept_of handle.old) (room.old, len.old) result (room.new, len.new) }
     ensures same { kept_of handle.new ≡ kept_of handle.old }
 {
@@ -148,7 +148,7 @@ fn fill_kept<
     F: FnOnce(&Surface<ChosenWidths>, &mut [u8], &mut usize) -> Result<(), Failure> + Drop,
 >(kept: &Kept, room: &mut [u8], len: &mut usize, action: F) -> Result<(), Failure>
     requires { F.IsAlwaysCallable action }
-    ensures { Reads (λ s old outcome new. FillsBy F.FnOnce action s old outcome new)
+    ensures { ReadsInto (λ s old outcome new. FillsBy F.FnOnce action s old outcome new)
         (Some kept.now) (room.old, len.old) result (room.new, len.new) }
 {
     let surface = kept.shown()?;

@@ -6,7 +6,7 @@ ghost use Rattle.tikeburo_c.specs.Cells.{CellPlace, GivesCell, GivesLink, GivesR
 ghost use Rattle.tikeburo_c.specs.Cells.{ReadsLine, uri_of};
 ghost use Rattle.tikeburo_c.specs.Handles.{kept_of};
 ghost use Rattle.tikeburo_c.specs.Outcomes.{Reports};
-ghost use Rattle.tikeburo_c.specs.Results.{Gives, OrNoMemory, Reads};
+ghost use Rattle.tikeburo_c.specs.Results.{GivesInto, OrNoMemory, ReadsInto};
 ghost use Rattle.tikeburo_c.specs.declared.failure.Failure.TheVariants.{Memory, Range};
 
 use crate::access::fill;
@@ -22,7 +22,7 @@ use termwiz_surface::change::SEQ_ZERO;
 use termwiz_surface::{Cell, CellAttributes, Line, Surface};
 
 fn give_line(line: &Line, room: &mut [u8], len: &mut usize) -> Result<(), Failure>
-    ensures { OrNoMemory (Gives (texts_of (visible line.now.cells)))
+    ensures { OrNoMemory (GivesInto (texts_of (visible line.now.cells)))
         (room.old, len.old) result (room.new, len.new) }
 {
     let text = line.as_str()?;
@@ -106,7 +106,7 @@ pub extern "C" fn tk_row_text(
     room: &mut [u8],
     len: &mut usize,
 ) -> i32
-    ensures read { Reports result (λ outcome. Reads (λ s. OrNoMemory (GivesRow filled row s))
+    ensures read { Reports result (λ outcome. ReadsInto (λ s. OrNoMemory (GivesRow filled row s))
         (kept_of handle.old) (room.old, len.old) outcome (room.new, len.new)) }
     ensures same { kept_of handle.new ≡ kept_of handle.old }
 {
@@ -117,7 +117,7 @@ pub extern "C" fn tk_row_text(
 }
 
 fn read_attribute(kept: &Kept, row: usize, attribute: &mut u8) -> Result<(), Failure>
-    ensures { Reads (λ s. ReadsLine row s) (Some kept.now) attribute.old result attribute.new }
+    ensures { ReadsInto (λ s. ReadsLine row s) (Some kept.now) attribute.old result attribute.new }
 {
     let surface = kept.shown()?;
     let line = line_at(surface, row)?;
@@ -133,7 +133,7 @@ pub extern "C" fn tk_line_attribute(
     row: usize,
     attribute: &mut u8,
 ) -> i32
-    ensures read { Reports result (λ outcome. Reads (λ s. ReadsLine row s)
+    ensures read { Reports result (λ outcome. ReadsInto (λ s. ReadsLine row s)
         (kept_of handle.old) attribute.old outcome attribute.new) }
     ensures same { kept_of handle.new ≡ kept_of handle.old }
 {
@@ -195,7 +195,7 @@ fn read_cell(
     room: &mut [u8],
     len: &mut usize,
 ) -> Result<(), Failure>
-    ensures { Reads {B = CellPlace} (λ s. GivesCell (cell_in column row s)) (Some kept.now)
+    ensures { ReadsInto {B = CellPlace} (λ s. GivesCell (cell_in column row s)) (Some kept.now)
         (fields.old, (room.old, len.old)) result (fields.new, (room.new, len.new)) }
 {
     let blank = Cell::blank();
@@ -216,7 +216,7 @@ pub extern "C" fn tk_cell_at(
     len: &mut usize,
 ) -> i32
     ensures read { Reports result (λ outcome.
-        Reads {B = CellPlace} (λ s. GivesCell (cell_in column row s))
+        ReadsInto {B = CellPlace} (λ s. GivesCell (cell_in column row s))
         (kept_of handle.old) (fields.old, (room.old, len.old))
         outcome (fields.new, (room.new, len.new))) }
     ensures same { kept_of handle.new ≡ kept_of handle.old }
@@ -268,7 +268,7 @@ pub extern "C" fn tk_link_at(
     len: &mut usize,
 ) -> i32
     ensures read { Reports result (λ outcome.
-        Reads (λ s. GivesLink (cell_in column row s))
+        ReadsInto (λ s. GivesLink (cell_in column row s))
         (kept_of handle.old) (room.old, len.old) outcome (room.new, len.new)) }
     ensures same { kept_of handle.new ≡ kept_of handle.old }
 {

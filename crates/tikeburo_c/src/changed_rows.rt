@@ -3,7 +3,7 @@ ghost use Rattle.std.specs.Prelude.{◌≡◌, IfOk, Some};
 ghost use Rattle.tikeburo_c.specs.ChangedRows as specs_of;
 ghost use Rattle.tikeburo_c.specs.Handles.{kept_of};
 ghost use Rattle.tikeburo_c.specs.Outcomes.{Reports};
-ghost use Rattle.tikeburo_c.specs.Results.{Gives, OrNoMemory, Reads};
+ghost use Rattle.tikeburo_c.specs.Results.{GivesInto, OrNoMemory, ReadsInto};
 
 use crate::buffers::give;
 use crate::failure::{Failure, status};
@@ -35,7 +35,7 @@ fn give_changed(
     room: &mut [u8],
     len: &mut usize,
 ) -> Result<(), Failure>
-    ensures { OrNoMemory (Gives (specs_of.changed_rows since surface.now))
+    ensures { OrNoMemory (GivesInto (specs_of.changed_rows since surface.now))
         (room.old, len.old) result (room.new, len.new) }
 {
     let rows = changed_rows(alloc, surface, since)?;
@@ -49,7 +49,7 @@ fn give_changed_of(
     room: &mut [u8],
     len: &mut usize,
 ) -> Result<(), Failure>
-    ensures { Reads (λ s. OrNoMemory (Gives (specs_of.changed_rows since s))) (Some kept.now)
+    ensures { ReadsInto (λ s. OrNoMemory (GivesInto (specs_of.changed_rows since s))) (Some kept.now)
         (room.old, len.old) result (room.new, len.new) }
 {
     let surface = kept.shown()?;
@@ -67,7 +67,7 @@ pub extern "C" fn tk_changed_rows(
     len: &mut usize,
 ) -> i32
     ensures read { Reports result (λ outcome.
-        Reads (λ s. OrNoMemory (Gives (specs_of.changed_rows since s)))
+        ReadsInto (λ s. OrNoMemory (GivesInto (specs_of.changed_rows since s)))
         (kept_of handle.old) (room.old, len.old) outcome (room.new, len.new)) }
     ensures same { kept_of handle.new ≡ kept_of handle.old }
 {

@@ -5,8 +5,8 @@ ghost use Rattle.tikeburo_c.specs.Making.{MakesClient, MakesClientBy, blank_clie
 ghost use Rattle.tikeburo_c.specs.Making.{usual_rows, widths_within};
 ghost use Rattle.tikeburo_c.specs.Outcomes.{Reports};
 ghost use Rattle.tikeburo_c.specs.Results.{OnClient, OnClientAnd};
-ghost use Rattle.tikeburo_c.specs.Streams.{Fails, FeedsBytes, FeedsIn, GivesAsk};
-ghost use Rattle.tikeburo_c.specs.Streams.{KeepsBytes, Resets, TakesOne};
+ghost use Rattle.tikeburo_c.specs.Streams.{FailsInto, FeedsBytes, FeedsIn, GivesAsk};
+ghost use Rattle.tikeburo_c.specs.Streams.{KeepsBytes, Resets, TakesNextInto};
 ghost use Rattle.tikeburo_c.specs.Streams.{fault_number, fields_at, named_ask, taken_fields};
 ghost use Rattle.tikeburo_c.specs.declared.failure.Failure.TheVariants.{Memory};
 ghost use Rattle.tikeburo_c.specs.declared.kept.Kept.TheVariants as kinds;
@@ -154,7 +154,7 @@ fn fields_at(kind: u8, at: usize, change: Option<usize>) -> FaultFields
 
 // Why a call of a client failed, with the fault in the struct where there is one.
 fn failed(error: ClientError, fault: &mut FaultFields) -> Failure
-    ensures { Fails error fault.old (Err result) fault.new }
+    ensures { FailsInto error fault.old (Err result) fault.new }
 {
     match error {
         ClientError::Fault(found) => {
@@ -268,7 +268,7 @@ fn take_answer(
     taken: &mut TakenFields,
     fault: &mut FaultFields,
 ) -> Result<(), Failure>
-    ensures { TakesOne (client.old, (taken.old, fault.old)) result
+    ensures { TakesNextInto (client.old, (taken.old, fault.old)) result
         (client.new, (taken.new, fault.new)) }
 {
     match client.take_answer() {
@@ -288,7 +288,7 @@ pub extern "C" fn tk_client_take_answer(
     taken: &mut TakenFields,
     fault: &mut FaultFields,
 ) -> i32
-    ensures { Reports result (λ outcome. OnClientAnd TakesOne
+    ensures { Reports result (λ outcome. OnClientAnd TakesNextInto
         (kept_of handle.old, (taken.old, fault.old)) outcome
         (kept_of handle.new, (taken.new, fault.new))) }
 {

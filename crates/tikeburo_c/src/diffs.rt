@@ -2,11 +2,11 @@
 ghost use Rattle.std.specs.Prelude.{◌≡◌, IfOk, None, Some, map, option_map};
 ghost use Rattle.termwiz_screen.specs.{region_value};
 ghost use Rattle.termwiz_surface.specs.{change_value, region_at};
-ghost use Rattle.tikeburo_c.specs.Diffs.{GivesDiff, GivesSameDiff, IsDiff, ReadsBoth};
+ghost use Rattle.tikeburo_c.specs.Diffs.{GivesDiff, GivesSameDiff, IsWrittenDiff, ReadsBoth};
 ghost use Rattle.tikeburo_c.specs.Getting.{ListPlace, list_place};
 ghost use Rattle.tikeburo_c.specs.Handles.{kept_of};
 ghost use Rattle.tikeburo_c.specs.Outcomes.{Reports};
-ghost use Rattle.tikeburo_c.specs.Results.{OrNoMemory, Reads};
+ghost use Rattle.tikeburo_c.specs.Results.{OrNoMemory, ReadsInto};
 
 use crate::failure::{Failure, status};
 use crate::getting::{ListCounts, give_all};
@@ -25,7 +25,7 @@ fn diff_in(
     other: &Surface<ChosenWidths>,
     region: Option<Region>,
 ) -> Result<Vec<Change>, AllocError>
-    ensures { IfOk result (λ l. IsDiff (option_map region_value region) surface.now other.now
+    ensures { IfOk result (λ l. IsWrittenDiff (option_map region_value region) surface.now other.now
         (map change_value l.items)) }
 {
     match region {
@@ -86,7 +86,7 @@ fn give_diff_of(
     texts: &mut [u8],
     counts: &mut ListCounts,
 ) -> Result<(), Failure>
-    ensures { Reads {B = ListPlace}
+    ensures { ReadsInto {B = ListPlace}
         (λ s. GivesSameDiff (option_map region_value region) s other.now)
         (Some kept.now) (list_place list.old texts.old counts.old)
         result (list_place list.new texts.new counts.new) }
@@ -104,7 +104,7 @@ fn diff_from(
     texts: &mut [u8],
     counts: &mut ListCounts,
 ) -> Result<(), Failure>
-    ensures read { Reads {B = ListPlace}
+    ensures read { ReadsInto {B = ListPlace}
         (λ s. GivesSameDiff (option_map region_value region) s other.now)
         (kept_of handle.old) (list_place list.old texts.old counts.old)
         result (list_place list.new texts.new counts.new) }

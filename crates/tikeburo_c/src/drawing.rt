@@ -2,7 +2,7 @@
 ghost use Rattle.std.specs.Prelude.{◌≡◌, Some};
 ghost use Rattle.termwiz_screen.specs.{region_value};
 ghost use Rattle.termwiz_surface.specs.{region_at};
-ghost use Rattle.tikeburo_c.specs.Drawing.{Copies, Draws, DrawsRegion, DrawsSame, DrawsSource};
+ghost use Rattle.tikeburo_c.specs.Drawing.{Copies, DrawsFor, DrawsRegion, DrawsSame, DrawsSource};
 ghost use Rattle.tikeburo_c.specs.Handles.{kept_of};
 ghost use Rattle.tikeburo_c.specs.Outcomes.{Reports};
 ghost use Rattle.tikeburo_c.specs.Results.{OnSurface};
@@ -23,7 +23,7 @@ fn draw_on<'t>(
     source: &Surface<ChosenWidths<'t>>,
     region: Region,
 ) -> Result<(), Failure>
-    ensures { Draws source.now (region_value region) surface.old result surface.new }
+    ensures { DrawsFor source.now (region_value region) surface.old result surface.new }
 {
     let Region {
         x,

@@ -6,7 +6,7 @@ ghost use Rattle.tikeburo_c.specs.Getting.{GivesAll, GivesChanges, GivesList, Li
 ghost use Rattle.tikeburo_c.specs.Getting.{list_place};
 ghost use Rattle.tikeburo_c.specs.Handles.{kept_of};
 ghost use Rattle.tikeburo_c.specs.Outcomes.{Reports};
-ghost use Rattle.tikeburo_c.specs.Results.{OrNoMemory, Reads};
+ghost use Rattle.tikeburo_c.specs.Results.{OrNoMemory, ReadsInto};
 
 use crate::failure::{Failure, status};
 use crate::handle::Handle;
@@ -105,7 +105,7 @@ fn give_changes_of(
     texts: &mut [u8],
     counts: &mut ListCounts,
 ) -> Result<(), Failure>
-    ensures { Reads {B = ListPlace} (λ s. OrNoMemory (GivesChanges since s)) (Some kept.now)
+    ensures { ReadsInto {B = ListPlace} (λ s. OrNoMemory (GivesChanges since s)) (Some kept.now)
         (list_place list.old texts.old counts.old) result
         (list_place list.new texts.new counts.new) }
 {
@@ -125,7 +125,7 @@ pub extern "C" fn tk_get_changes(
     counts: &mut ListCounts,
 ) -> i32
     ensures read { Reports result (λ outcome.
-        Reads {B = ListPlace} (λ s. OrNoMemory (GivesChanges since s)) (kept_of handle.old)
+        ReadsInto {B = ListPlace} (λ s. OrNoMemory (GivesChanges since s)) (kept_of handle.old)
         (list_place list.old texts.old counts.old)
         outcome (list_place list.new texts.new counts.new)) }
     ensures same { kept_of handle.new ≡ kept_of handle.old }

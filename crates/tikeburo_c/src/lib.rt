@@ -2,6 +2,7 @@
 #![tactic(auto)]
 
 mod access;
+mod adding;
 mod answers;
 mod asks;
 mod buffers;
@@ -34,7 +35,6 @@ mod reading_widths;
 mod row_parts;
 mod rows;
 mod same_widths;
-mod scrolling;
 mod shown_cells;
 mod states;
 mod surfaces;

@@ -5,23 +5,14 @@ ghost use Rattle.termwiz_cell.specs.declared.change.Change.{Change};
 ghost use Rattle.termwiz_cell.specs.AttributeChangeValue.{attribute_change_value};
 ghost use Rattle.termwiz_cell.specs.ChangeValue.{change_value};
 ghost use Rattle.tikeburo_c.specs.Fields as colors;
-ghost use Rattle.tikeburo_c.specs.Handles.{kept_of};
 ghost use Rattle.tikeburo_c.specs.Lists as listed;
-ghost use Rattle.tikeburo_c.specs.Lists.{AddsListed};
-ghost use Rattle.tikeburo_c.specs.Outcomes.{Reports};
-ghost use Rattle.tikeburo_c.specs.Results.{OnSurface};
 ghost use Rattle.tikeburo_c.specs.declared.failure.Failure.TheVariants.{Memory, Range};
 
-use crate::access::on_surface;
-use crate::changes::add_list;
-use crate::failure::{Failure, status};
+use crate::failure::Failure;
 use crate::fields::{AttributeFields, ColorFields, attributes_in, color_in, in_range};
-use crate::handle::Handle;
 use crate::reading::visibility_of;
-use crate::widths::ChosenWidths;
 use std::alloc::Global;
 use std::rc::Rc;
-use termwiz_share::Source;
 use termwiz_surface::cell::{Blink, Intensity, Underline};
 use termwiz_surface::change::LineAttribute;
 use termwiz_surface::{
@@ -383,35 +374,4 @@ pub(crate) fn listed_in(
         return Err(Failure::Range);
     }
     Ok(changes)
-}
-
-fn add_listed(
-    alloc: Global,
-    surface: &mut Source<ChosenWidths>,
-    list: &[ChangeFields],
-    texts: &[u8],
-) -> Result<(), Failure>
-    ensures { AddsListed list.now texts.now surface.old result surface.new }
-{
-    let changes = listed_in(alloc, list, texts)?;
-    add_list(surface, changes)
-}
-
-/// Applies a list of changes, whose texts follow one another.
-#[unsafe(no_mangle)]
-pub extern "C" fn tk_add_changes(
-    alloc: Global,
-    handle: &mut Handle,
-    list: &[ChangeFields],
-    texts: &[u8],
-) -> i32
-    ensures { Reports result (λ outcome. OnSurface (AddsListed list.now texts.now)
-        (kept_of handle.old) outcome (kept_of handle.new)) }
-{
-    let outcome = on_surface(
-        alloc,
-        handle,
-        |surface| add_listed(alloc, surface, list, texts),
-    );
-    status(outcome)
 }

@@ -6,7 +6,7 @@ ghost use Rattle.tikeburo_c.specs.Outcomes.{Reports};
 ghost use Rattle.tikeburo_c.specs.Params as params;
 ghost use Rattle.tikeburo_c.specs.Params.{GivesBoth, GivesCellParam, GivesParam, ParamPlace};
 ghost use Rattle.tikeburo_c.specs.Params.{lent_param};
-ghost use Rattle.tikeburo_c.specs.Results.{Reads};
+ghost use Rattle.tikeburo_c.specs.Results.{ReadsInto};
 
 use crate::cells::cell_at;
 use crate::failure::{Failure, status};
@@ -83,7 +83,7 @@ fn give_pen_param(
     value: &mut [u8],
     value_len: &mut usize,
 ) -> Result<(), Failure>
-    ensures { Reads {B = ParamPlace} (λ s. GivesParam (params.param_at index s.pen.hyperlink))
+    ensures { ReadsInto {B = ParamPlace} (λ s. GivesParam (params.param_at index s.pen.hyperlink))
         (Some kept.now) ((key.old, key_len.old), (value.old, value_len.old)) result
         ((key.new, key_len.new), (value.new, value_len.new)) }
 {
@@ -103,7 +103,7 @@ pub extern "C" fn tk_pen_link_param(
     value_len: &mut usize,
 ) -> i32
     ensures read { Reports result (λ outcome.
-        Reads {B = ParamPlace} (λ s. GivesParam (params.param_at index s.pen.hyperlink))
+        ReadsInto {B = ParamPlace} (λ s. GivesParam (params.param_at index s.pen.hyperlink))
         (kept_of handle.old) ((key.old, key_len.old), (value.old, value_len.old))
         outcome ((key.new, key_len.new), (value.new, value_len.new))) }
     ensures same { kept_of handle.new ≡ kept_of handle.old }
@@ -129,7 +129,7 @@ fn give_cell_param(
     value: &mut [u8],
     value_len: &mut usize,
 ) -> Result<(), Failure>
-    ensures { Reads {B = ParamPlace} (λ s. GivesCellParam index (cell_in column row s))
+    ensures { ReadsInto {B = ParamPlace} (λ s. GivesCellParam index (cell_in column row s))
         (Some kept.now) ((key.old, key_len.old), (value.old, value_len.old)) result
         ((key.new, key_len.new), (value.new, value_len.new)) }
 {
@@ -153,7 +153,7 @@ pub extern "C" fn tk_link_param_at(
     value_len: &mut usize,
 ) -> i32
     ensures read { Reports result (λ outcome.
-        Reads {B = ParamPlace} (λ s. GivesCellParam index (cell_in column row s))
+        ReadsInto {B = ParamPlace} (λ s. GivesCellParam index (cell_in column row s))
         (kept_of handle.old) ((key.old, key_len.old), (value.old, value_len.old))
         outcome ((key.new, key_len.new), (value.new, value_len.new))) }
     ensures same { kept_of handle.new ≡ kept_of handle.old }

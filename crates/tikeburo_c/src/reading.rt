@@ -4,7 +4,7 @@ ghost use Rattle.termwiz_screen.specs.Log.{next_number};
 ghost use Rattle.tikeburo_c.specs.Handles.{kept_of};
 ghost use Rattle.tikeburo_c.specs.Outcomes.{Reports};
 ghost use Rattle.tikeburo_c.specs.Reading.{ReadsValue, is_visible, text_of, visibility_of};
-ghost use Rattle.tikeburo_c.specs.Results.{Gives, OrNoMemory, Reads};
+ghost use Rattle.tikeburo_c.specs.Results.{GivesInto, OrNoMemory, ReadsInto};
 
 use crate::access::{fill, read};
 use crate::buffers::give;
@@ -105,7 +105,7 @@ pub extern "C" fn tk_title(
     room: &mut [u8],
     len: &mut usize,
 ) -> i32
-    ensures read { Reports result (λ outcome. Reads (λ s. Gives s.title)
+    ensures read { Reports result (λ outcome. ReadsInto (λ s. GivesInto s.title)
         (kept_of handle.old) (room.old, len.old) outcome (room.new, len.new)) }
     ensures same { kept_of handle.new ≡ kept_of handle.old }
 {
@@ -120,7 +120,7 @@ fn give_text(
     room: &mut [u8],
     len: &mut usize,
 ) -> Result<(), Failure>
-    ensures { OrNoMemory (Gives (text_of surface.now))
+    ensures { OrNoMemory (GivesInto (text_of surface.now))
         (room.old, len.old) result (room.new, len.new) }
 {
     let text = surface.screen_chars_to_string()?;
@@ -136,7 +136,7 @@ pub extern "C" fn tk_screen_text(
     room: &mut [u8],
     len: &mut usize,
 ) -> i32
-    ensures read { Reports result (λ outcome. Reads (λ s. OrNoMemory (Gives (text_of s)))
+    ensures read { Reports result (λ outcome. ReadsInto (λ s. OrNoMemory (GivesInto (text_of s)))
         (kept_of handle.old) (room.old, len.old) outcome (room.new, len.new)) }
     ensures same { kept_of handle.new ≡ kept_of handle.old }
 {

@@ -3,7 +3,7 @@ ghost use Rattle.std.specs.Prelude.{◌≡◌, Some};
 ghost use Rattle.tikeburo_c.specs.Handles.{kept_of};
 ghost use Rattle.tikeburo_c.specs.Outcomes.{Reports};
 ghost use Rattle.tikeburo_c.specs.ReadingWidths.{GivesWidths, WidthsPlace, widths_place};
-ghost use Rattle.tikeburo_c.specs.Results.{Reads};
+ghost use Rattle.tikeburo_c.specs.Results.{ReadsInto};
 
 use crate::failure::{Failure, status};
 use crate::handle::Handle;
@@ -38,7 +38,7 @@ fn give_widths_of(
     ranges: &mut [WidthRange],
     count: &mut usize,
 ) -> Result<(), Failure>
-    ensures { Reads {B = WidthsPlace} (λ s. GivesWidths s.widths) (Some kept.now)
+    ensures { ReadsInto {B = WidthsPlace} (λ s. GivesWidths s.widths) (Some kept.now)
         (widths_place kind.old ranges.old count.old) result
         (widths_place kind.new ranges.new count.new) }
 {
@@ -56,7 +56,7 @@ pub extern "C" fn tk_widths(
     count: &mut usize,
 ) -> i32
     ensures read { Reports result (λ outcome.
-        Reads {B = WidthsPlace} (λ s. GivesWidths s.widths) (kept_of handle.old)
+        ReadsInto {B = WidthsPlace} (λ s. GivesWidths s.widths) (kept_of handle.old)
         (widths_place kind.old ranges.old count.old)
         outcome (widths_place kind.new ranges.new count.new)) }
     ensures same { kept_of handle.new ≡ kept_of handle.old }

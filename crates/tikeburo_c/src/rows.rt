@@ -6,7 +6,7 @@ ghost use Rattle.termwiz_screen.specs.{IsPaddable};
 ghost use Rattle.termwiz_surface.specs.{visible};
 ghost use Rattle.tikeburo_c.specs.Handles.{kept_of};
 ghost use Rattle.tikeburo_c.specs.Outcomes.{Reports};
-ghost use Rattle.tikeburo_c.specs.Results.{OrNoMemory, Reads};
+ghost use Rattle.tikeburo_c.specs.Results.{OrNoMemory, ReadsInto};
 ghost use Rattle.tikeburo_c.specs.Rows as rows;
 ghost use Rattle.tikeburo_c.specs.Rows.{GivesCells, GivesParts, GivesShown, RowPlace, at_front};
 ghost use Rattle.tikeburo_c.specs.Rows.{blanks_at, counts_of, row_value};
@@ -142,7 +142,7 @@ fn give_cells(
     text: &mut [u8],
     counts: &mut RowCounts,
 ) -> Result<(), Failure>
-    ensures { Reads {B = RowPlace} (GivesCells row) (Some kept.now)
+    ensures { ReadsInto {B = RowPlace} (GivesCells row) (Some kept.now)
         (rows.row_place cells.old attributes.old text.old counts.old) result
         (rows.row_place cells.new attributes.new text.new counts.new) }
 {
@@ -177,7 +177,7 @@ fn give_shown_of(
     text: &mut [u8],
     counts: &mut RowCounts,
 ) -> Result<(), Failure>
-    ensures { Reads {B = RowPlace} (GivesShown row) (Some kept.now)
+    ensures { ReadsInto {B = RowPlace} (GivesShown row) (Some kept.now)
         (rows.row_place cells.old attributes.old text.old counts.old) result
         (rows.row_place cells.new attributes.new text.new counts.new) }
 {
@@ -198,7 +198,7 @@ pub extern "C" fn tk_row_cells(
     counts: &mut RowCounts,
 ) -> i32
     ensures read { Reports result (λ outcome.
-        Reads {B = RowPlace} (GivesCells row) (kept_of handle.old)
+        ReadsInto {B = RowPlace} (GivesCells row) (kept_of handle.old)
         (rows.row_place cells.old attributes.old text.old counts.old)
         outcome (rows.row_place cells.new attributes.new text.new counts.new)) }
     ensures same { kept_of handle.new ≡ kept_of handle.old }
@@ -227,7 +227,7 @@ pub extern "C" fn tk_shown_cells(
     counts: &mut RowCounts,
 ) -> i32
     ensures read { Reports result (λ outcome.
-        Reads {B = RowPlace} (GivesShown row) (kept_of handle.old)
+        ReadsInto {B = RowPlace} (GivesShown row) (kept_of handle.old)
         (rows.row_place cells.old attributes.old text.old counts.old)
         outcome (rows.row_place cells.new attributes.new text.new counts.new)) }
     ensures same { kept_of handle.new ≡ kept_of handle.old }

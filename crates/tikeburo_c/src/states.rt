@@ -3,7 +3,7 @@ ghost use Rattle.std.specs.Prelude.{◌≡◌, Some};
 ghost use Rattle.tikeburo_c.specs.Cells.{uri_of};
 ghost use Rattle.tikeburo_c.specs.Handles.{kept_of};
 ghost use Rattle.tikeburo_c.specs.Outcomes.{Reports};
-ghost use Rattle.tikeburo_c.specs.Results.{Gives, Reads};
+ghost use Rattle.tikeburo_c.specs.Results.{GivesInto, ReadsInto};
 ghost use Rattle.tikeburo_c.specs.States as specs_of;
 ghost use Rattle.tikeburo_c.specs.States.{ReadsKept};
 
@@ -81,7 +81,7 @@ pub extern "C" fn tk_pen_link(
     room: &mut [u8],
     len: &mut usize,
 ) -> i32
-    ensures read { Reports result (λ outcome. Reads (λ s. Gives (uri_of s.pen.hyperlink))
+    ensures read { Reports result (λ outcome. ReadsInto (λ s. GivesInto (uri_of s.pen.hyperlink))
         (kept_of handle.old) (room.old, len.old) outcome (room.new, len.new)) }
     ensures same { kept_of handle.new ≡ kept_of handle.old }
 {

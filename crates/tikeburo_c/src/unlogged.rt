@@ -1,21 +1,12 @@
 //! Lists of changes that aren't logged: they borrow the texts that they print.
 ghost use Rattle.std.specs.Prelude.{◌≡◌, ◌⊎◌, Err, IfErr, IfOk, Ok, map};
 ghost use Rattle.termwiz_surface.specs.Unlogged.{lent_value};
-ghost use Rattle.tikeburo_c.specs.Handles.{kept_of};
 ghost use Rattle.tikeburo_c.specs.Lists as listed;
-ghost use Rattle.tikeburo_c.specs.Lists.{AddsListedUnlogged};
-ghost use Rattle.tikeburo_c.specs.Outcomes.{Reports};
-ghost use Rattle.tikeburo_c.specs.Results.{OnSurface};
 ghost use Rattle.tikeburo_c.specs.declared.failure.Failure.TheVariants.{Memory};
 
-use crate::access::on_surface;
-use crate::changes::add_list_unlogged;
-use crate::failure::{Failure, status};
-use crate::handle::Handle;
+use crate::failure::Failure;
 use crate::lists::{ChangeFields, Kind, change_in, kind_in, pen_in, text_in, text_len};
-use crate::widths::ChosenWidths;
 use std::alloc::Global;
-use termwiz_share::Source;
 use termwiz_surface::{Change, LentChange};
 
 // A change that borrows the text that it prints or the title that it sets.
@@ -85,35 +76,4 @@ pub(crate) fn listed_lent_in<'a>(
         return Err(Failure::Range);
     }
     Ok(changes)
-}
-
-fn add_unlogged(
-    alloc: Global,
-    surface: &mut Source<ChosenWidths>,
-    list: &[ChangeFields],
-    texts: &[u8],
-) -> Result<(), Failure>
-    ensures { AddsListedUnlogged list.now texts.now surface.old result surface.new }
-{
-    let changes = listed_lent_in(alloc, list, texts)?;
-    add_list_unlogged(surface, &changes)
-}
-
-/// Applies a list of changes, whose texts follow one another, and logs none of them.
-#[unsafe(no_mangle)]
-pub extern "C" fn tk_add_unlogged(
-    alloc: Global,
-    handle: &mut Handle,
-    list: &[ChangeFields],
-    texts: &[u8],
-) -> i32
-    ensures { Reports result (λ outcome. OnSurface (AddsListedUnlogged list.now texts.now)
-        (kept_of handle.old) outcome (kept_of handle.new)) }
-{
-    let outcome = on_surface(
-        alloc,
-        handle,
-        |surface| add_unlogged(alloc, surface, list, texts),
-    );
-    status(outcome)
 }

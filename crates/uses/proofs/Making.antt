@@ -5,13 +5,13 @@ use Rattle.termwiz_surface.specs.Log.{LogValue}
 use Rattle.termwiz_surface.specs.{Adds, ChangeValue, FullScreen, Kept, Screen, SurfaceValue, appended, full_of, full_replay, full_screen, kept_of, next_number, replay, replay_kept, screen_of}
 use Rattle.termwiz_surface.specs.declared.surface.SurfaceError.{SurfaceError}
 use Rattle.termwiz_surface.specs.declared.surface.SurfaceError.TheVariants.{Memory, Numbers, ScrollRegion}
-use Rattle.uses.specs.Making.{AddsAll, HasMade, full_after}
+use Rattle.uses.specs.Making.{MakesOrRefuses, HasMade, full_after}
 
 module _ {W : Type 0} (m : List ℕ → ℕ) (old new : SurfaceValue W) (cs : List ChangeValue) (n : ℕ) where
-  pub adds_made : (k : ℕ) → Adds m old cs n (Ok k) new → AddsAll m old cs (Ok tt) new
+  pub adds_made : (k : ℕ) → Adds m old cs n (Ok k) new → MakesOrRefuses m old cs (Ok tt) new
   adds_made k a = (a.0, a.1, a.3)
 
-  pub adds_refused : (e : SurfaceError) → Adds m old cs n (Err e) new → AddsAll m old cs (Err e) new
+  pub adds_refused : (e : SurfaceError) → Adds m old cs n (Err e) new → MakesOrRefuses m old cs (Err e) new
   adds_refused Memory a = a
   adds_refused Numbers a = a
   adds_refused ScrollRegion a = a

@@ -5,13 +5,13 @@ use Rattle.std.specs.List.{AllByRecursion}
 use Rattle.std.specs.Prelude.{Result, Ok, Err}
 use Rattle.termwiz_share.specs.Client.{ClientValue, SameSettings, Shown, shown_by}
 use Rattle.termwiz_share.specs.Feeding.{Feeds}
-use Rattle.termwiz_share.specs.Histories.{Follows, FollowsTo, Given, HasFollowed, HasMore, HasStopped, IsGenuine, after, after_all, stream}
+use Rattle.termwiz_share.specs.Histories.{ClientFollows, ClientFollowsTo, Given, ClientHasFollowed, HasMore, HasStopped, IsGenuine, after, after_all, stream}
 use Rattle.termwiz_share.specs.Source.{IsResponse, SourceValue, sent_by}
 use Rattle.termwiz_share.specs.declared.error.ClientError.{ClientError}
 use Rattle.termwiz_share.specs.declared.error.ClientError.TheVariants as errors
 use Rattle.termwiz_surface.specs.{Carries, FullScreen, IsPastOf, full_of, full_screens, next_number}
 use Rattle.termwiz_wire.specs.Sent.{answer}
-use Rattle.termwiz_wire.specs.Within.{IsWithin}
+use Rattle.termwiz_wire.specs.Within.{IsWithinLimits}
 use Rattle.termwiz_wire.specs.declared.fault.Limits.{Limits}
 use Rattle.termwiz_wire.specs.declared.sent.Ask.{Ask}
 use Rattle.uses.specs.Streams.{ShowsLast}
@@ -49,7 +49,7 @@ module _ {W : Type 0} (f : W → List ℕ → ℕ) (histories : ℕ → ℕ → 
 
   module _ (sent : List Given) (old mid : ClientValue W) where
     -- it follows the answers that are left
-    followed_on : (future piece : List ℕ) (n : ℕ) → Follows f histories sent old (piece ++ future) → Feeds f old piece (Ok n) mid → (h : HasFollowed f histories sent future n old mid) → Follows f histories h.others mid future
+    followed_on : (future piece : List ℕ) (n : ℕ) → ClientFollows f histories sent old (piece ++ future) → Feeds f old piece (Ok n) mid → (h : ClientHasFollowed f histories sent future n old mid) → ClientFollows f histories h.others mid future
     followed_on future piece n follows feeds h =
         let same = reads_on old mid piece n feeds in
         let genuine : AllByRecursion (IsGenuine (f old.surface.widths) old.limits histories) (h.given ++ h.others) = subst (AllByRecursion (IsGenuine (f old.surface.widths) old.limits histories)) h.all follows.genuine in
@@ -67,8 +67,8 @@ module _ {W : Type 0} (f : W → List ℕ → ℕ) (histories : ℕ → ℕ → 
     none_left m [] kept left few = refl
     none_left m (g ∷ others) kept left few = absurd (omega (arith, few, ap length left, length-append kept [], length-append (answer m g.sent) (stream m others)))
 
-    module _ (future : List ℕ) (n : ℕ) (h : HasFollowed f histories sent future n old mid) (new : ClientValue W) where
-      shows_last : (k : ℕ) → HasFollowed f histories h.others [] k mid new → shown_by new ≡ after_all (shown_by old) sent
+    module _ (future : List ℕ) (n : ℕ) (h : ClientHasFollowed f histories sent future n old mid) (new : ClientValue W) where
+      shows_last : (k : ℕ) → ClientHasFollowed f histories h.others [] k mid new → shown_by new ≡ after_all (shown_by old) sent
       shows_last k more =
           let none : more.others ≡ [] = none_left (f new.surface.widths) more.others new.kept more.left more.no_whole in
           let rest : more.given ≡ h.others = sym (append-nil more.given) ∙ ap (λ (l : List Given). more.given ++ l) (sym none) ∙ sym more.all in
@@ -91,7 +91,7 @@ module _ {W : Type 0} (f : W → List ℕ → ℕ) (histories : ℕ → ℕ → 
           shows (inl is) = inl (is ∙ ap (λ (s : Shown). after_all s stopped.given) h.shows ∙ sym (after_append (shown_by old) h.given stopped.given))
           shows (inr none) = inr none
 
-      stops_later : (e : ClientError) → FollowsTo f histories h.others [] mid (Err e) new → ShowsLast f histories sent old (Err e) new
+      stops_later : (e : ClientError) → ClientFollowsTo f histories h.others [] mid (Err e) new → ShowsLast f histories sent old (Err e) new
       stops_later errors.Memory stopped = stopped_later stopped
       stops_later errors.Numbers stopped = stopped_later stopped
       stops_later (errors.Fault x) stopped = stopped
@@ -99,18 +99,18 @@ module _ {W : Type 0} (f : W → List ℕ → ℕ) (histories : ℕ → ℕ → 
 
     -- what the two pieces of a stream make of a client
     module _ (front back stream : List ℕ) (parts : front ++ back ≡ stream) (n : ℕ) (feeds : Feeds f old front (Ok n) mid)
-        (takes : Follows f histories sent old (front ++ back) → FollowsTo f histories sent back old (Ok n) mid)
-        (follows : Follows f histories sent old stream) where
-      first : Follows f histories sent old (front ++ back)
-      first = subst (λ (b : List ℕ). Follows f histories sent old b) (sym parts) follows
+        (takes : ClientFollows f histories sent old (front ++ back) → ClientFollowsTo f histories sent back old (Ok n) mid)
+        (follows : ClientFollows f histories sent old stream) where
+      first : ClientFollows f histories sent old (front ++ back)
+      first = subst (λ (b : List ℕ). ClientFollows f histories sent old b) (sym parts) follows
 
-      taken : HasFollowed f histories sent back n old mid
+      taken : ClientHasFollowed f histories sent back n old mid
       taken = takes first
 
-      last : Follows f histories taken.others mid (back ++ [])
-      last = subst (λ (b : List ℕ). Follows f histories taken.others mid b) (sym (append-nil back)) (followed_on back front n first feeds taken)
+      last : ClientFollows f histories taken.others mid (back ++ [])
+      last = subst (λ (b : List ℕ). ClientFollows f histories taken.others mid b) (sym (append-nil back)) (followed_on back front n first feeds taken)
 
-      pub ends_last : (r : Result ℕ ClientError) (new : ClientValue W) → ((others : List Given) → Follows f histories others mid (back ++ []) → FollowsTo f histories others [] mid r new) → ShowsLast f histories sent old (done r) new
+      pub ends_last : (r : Result ℕ ClientError) (new : ClientValue W) → ((others : List Given) → ClientFollows f histories others mid (back ++ []) → ClientFollowsTo f histories others [] mid r new) → ShowsLast f histories sent old (done r) new
       ends_last (Ok k) new later = shows_last back n taken new k (later taken.others last)
       ends_last (Err e) new later = stops_later back n taken new e (later taken.others last)
 
@@ -133,7 +133,7 @@ module _ {W : Type 0} (f : W → List ℕ → ℕ) (s : SourceValue W) (ask : As
         }
 
     module _ (limits : Limits) (cells : 2 ^ 64 ≤ limits.cells + 1) (rows : 2 ^ 64 ≤ limits.rows + 1) (few : length bytes ≤ limits.bytes) where
-      allowed : IsWithin (f s.surface.widths) limits (sent_by s.number response.given)
+      allowed : IsWithinLimits (f s.surface.widths) limits (sent_by s.number response.given)
       allowed =
           let form = response.is_sent.well_formed in
           record {

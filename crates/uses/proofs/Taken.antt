@@ -4,7 +4,7 @@ use Rattle.std.proofs.lemmas.Bool.{true≢false}
 use Rattle.std.specs.Prelude.{Bool, Option, Some, None, Ok, Err, if◌then◌else◌, is_some, not}
 use Rattle.termwiz_share.specs.Client.{ClientValue, Shown, fits, shown_by}
 use Rattle.termwiz_share.specs.Feeding.{TakesNext}
-use Rattle.termwiz_share.specs.Histories.{Follows, FollowsNext, Given, HasKept, HasStopped, HasTakenFirst, after, after_all}
+use Rattle.termwiz_share.specs.Histories.{ClientFollows, FollowsNext, Given, HasKept, HasStopped, HasTakenFirst, after, after_all}
 use Rattle.termwiz_share.specs.declared.error.ClientError.{ClientError}
 use Rattle.termwiz_share.specs.declared.error.ClientError.TheVariants as errors
 use Rattle.termwiz_share.specs.declared.taken.Taken.{Taken}
@@ -47,7 +47,7 @@ module _ {W : Type 0} (f : W → List ℕ → ℕ) (histories : ℕ → ℕ → 
     pub others : List Given
     pub all : sent ≡ given ++ others
     pub shows : shown_by now ≡ after_all (shown_by old) given
-    pub follows : Follows f histories others now future
+    pub follows : ClientFollows f histories others now future
 
   module _ (mid new : ClientValue W) (so_far : HasTaken mid) where
     abbrev pub Next : Taken → Type 0
@@ -93,7 +93,7 @@ module _ {W : Type 0} (f : W → List ℕ → ℕ) (histories : ℕ → ℕ → 
     pub has : HasTaken now
     pub counted : count ≡ length has.given
 
-  pub some_none : Follows f histories sent old future → HasTakenSome 0 old
+  pub some_none : ClientFollows f histories sent old future → HasTakenSome 0 old
   some_none follows = record { has = record { given = []; others = sent; all = refl; shows = refl; follows = follows }; counted = refl }
 
   some_more : (count : ℕ) (mid new : ClientValue W) (so_far : HasTakenSome count mid) (t : Taken) → Next mid new so_far.has t → HasTakenSome (count + 1) new
@@ -140,7 +140,7 @@ module _ {W : Type 0} (f : W → List ℕ → ℕ) (histories : ℕ → ℕ → 
     pub counted : stale ≡ stale_in (shown_by old) has.given
 
   module _ (before : List FullScreen) where
-    pub shown_none : Follows f histories sent old future → HasShown before 0 old before
+    pub shown_none : ClientFollows f histories sent old future → HasShown before 0 old before
     shown_none follows = record { has = record { given = []; others = sent; all = refl; shows = refl; follows = follows }; shown = sym (append-nil before); counted = refl }
 
     module _ (stale : ℕ) (mid new : ClientValue W) (screens : List FullScreen) (so_far : HasShown before stale mid screens) where

@@ -2,9 +2,9 @@
 use Rattle.std.proofs.Common.{◌≡◌, ◌⊎◌, ℕ, ◌+◌, ◌<◌, ◌≤◌, ◌^◌, true, List, [], ◌∷◌, ◌++◌, length, length-append, append-nil, refl, sym, ap, subst, ◌∙◌, arith, inl, inr}
 use Rattle.std.proofs.lemmas.Bool.{eq-eqb, ne_eqb}
 use Rattle.std.specs.Prelude.{None, ◌==◌, if◌then◌else◌, Result, Ok, Err, OnOk}
-use Rattle.termwiz_share.specs.{ClientValue, IsResponse, Shows, SourceValue, ask_of, fits, shown_by}
+use Rattle.termwiz_share.specs.{ClientValue, IsResponse, ShowsSource, SourceValue, ask_of, fits, shown_by}
 use Rattle.termwiz_share.specs.Client.{Shown}
-use Rattle.termwiz_share.specs.Histories.{Follows, Given, IsGenuine, after_all}
+use Rattle.termwiz_share.specs.Histories.{ClientFollows, Given, IsGenuine, after_all}
 use Rattle.termwiz_share.specs.declared.error.ClientError.{ClientError}
 use Rattle.termwiz_share.specs.declared.error.ClientError.TheVariants as errors
 use Rattle.termwiz_surface.specs.{ChangeValue, FullScreen, IsPastOf, KeepsNames, SurfaceValue, full_of, full_screens, next_number}
@@ -31,7 +31,7 @@ module _ {W : Type 0} (f : W → List ℕ → ℕ) where
 
 -- the client shows the source, or wants memory or numbers
 abbrev pub ShowsOrWants : {W : Type 0} → SourceValue W → Result (Unit {0}) ClientError → ClientValue W → Type 0
-ShowsOrWants s (Ok u) new = Shows s new
+ShowsOrWants s (Ok u) new = ShowsSource s new
 ShowsOrWants s (Err errors.Memory) new = Unit {0}
 ShowsOrWants s (Err errors.Numbers) new = Unit {0}
 ShowsOrWants s (Err _) new = ⊥
@@ -101,7 +101,7 @@ module _ {W : Type 0} (f : W → List ℕ → ℕ) (client : ClientValue W) (a b
       encoded_other : other ≡ answer m k.sent
       encoded_other = last.encoded ∙ ap (λ (v : List ℕ → ℕ). answer v k.sent) (sym one_other)
 
-      pub follows_both : (bytes : List ℕ) → bytes ≡ late ++ (early ++ (late ++ (late ++ (other ++ [])))) → Follows f histories sent_in_turn client bytes
+      pub follows_both : (bytes : List ℕ) → bytes ≡ late ++ (early ++ (late ++ (late ++ (other ++ [])))) → ClientFollows f histories sent_in_turn client bytes
       follows_both bytes is = record {
         reading = reading;
         genuine = (genuine_late, (genuine_early, (genuine_late, (genuine_late, (genuine_other, tt)))));
@@ -117,14 +117,14 @@ module _ {W : Type 0} (f : W → List ℕ → ℕ) (client : ClientValue W) (a b
           is (inl none) = rw (eq-eqb last.given.base 0 none) refl
           is (inr from) = absurd (omega (arith, last.is_sent.some_source, from.0, no_source))
 
-      pub shows_last_of_both : (new : ClientValue W) → shown_by new ≡ after_all (shown_by client) sent_in_turn → Shows c new
+      pub shows_last_of_both : (new : ClientValue W) → shown_by new ≡ after_all (shown_by client) sent_in_turn → ShowsSource c new
       shows_last_of_both new shows =
           let is : shown_by new ≡ record { picture = full_of c.surface; source = c.number; number = last.given.number } =
           shows ∙ (rw (last_fits (after_all (shown_by client) (h ∷ g ∷ h ∷ h ∷ []))) refl) in
           record { picture = ap (λ (s : Shown). s.picture) is; source = ap (λ (s : Shown). s.source) is; number = ap (λ (s : Shown). s.number) is ∙ last.number }
 
       -- a client that is fed that shows the other source, or wants memory or numbers
-      pub ends_both : (bytes : List ℕ) → bytes ≡ in_turn late early other → (r : Result (Unit {0}) ClientError) (new : ClientValue W) → ((names : ℕ → ℕ → FullScreen) (sent : List Given) → Follows f names sent client bytes → ShowsLast f names sent client r new) → ShowsOrWants c r new
+      pub ends_both : (bytes : List ℕ) → bytes ≡ in_turn late early other → (r : Result (Unit {0}) ClientError) (new : ClientValue W) → ((names : ℕ → ℕ → FullScreen) (sent : List Given) → ClientFollows f names sent client bytes → ShowsLast f names sent client r new) → ShowsOrWants c r new
       ends_both bytes is r new shows = ended r new (shows histories sent_in_turn (follows_both bytes is))
         where
           ended : (r : Result (Unit {0}) ClientError) (new : ClientValue W) → ShowsLast f histories sent_in_turn client r new → ShowsOrWants c r new
@@ -164,7 +164,7 @@ module _ {W : Type 0} (f : W → List ℕ → ℕ) (first second later other : S
       refl refl refl refl refl
       takes.stream both.is r new takes.shows
 
-  pub shows_second : (r : Result (Unit {0}) ShareError) (new : ClientValue W) → FeedsBoth f first second change cut client r later other new → OnOk r (Shows other new)
+  pub shows_second : (r : Result (Unit {0}) ShareError) (new : ClientValue W) → FeedsBoth f first second change cut client r later other new → OnOk r (ShowsSource other new)
   shows_second (Ok u) new takes = takes_both (Ok u) new takes
   shows_second (Err e) new fails = tt
 
@@ -191,11 +191,11 @@ module _ {W : Type 0} (f : W → List ℕ → ℕ) (first second : SourceValue W
 
     -- and else the whole of it
     pub fed : (new : ClientValue W) (ask : Ask) (stream piece : List ℕ) → ask ≡ ask_of client → piece ≡ stream → length stream < 2 ^ 64 → IsStreamOfBoth f first second change ask stream later other → (r : Result (Unit {0}) ClientError) → FeedsInTwo f client piece cut r new
-        → ((names : ℕ → ℕ → FullScreen) (sent : List Given) → Follows f names sent client piece → ShowsLast f names sent client r new) → TakesBoth f first second change cut client r later other new
+        → ((names : ℕ → ℕ → FullScreen) (sent : List Given) → ClientFollows f names sent client piece → ShowsLast f names sent client r new) → TakesBoth f first second change cut client r later other new
     fed new ask stream piece asked same few answered r feeds shows = record {
       stream = stream;
       answered = subst (λ (a : Ask). IsStreamOfBoth f first second change a stream later other) asked answered;
       few = few;
       feeds = subst (λ (b : List ℕ). FeedsInTwo f client b cut r new) same feeds;
-      shows = λ names sent follows. shows names sent (subst (λ (b : List ℕ). Follows f names sent client b) (sym same) follows);
+      shows = λ names sent follows. shows names sent (subst (λ (b : List ℕ). ClientFollows f names sent client b) (sym same) follows);
     }

@@ -3,7 +3,7 @@ use Rattle.std.specs.Prelude.{◌≡◌, ◌⊎◌, ℕ, ◌<◌, List, length, 
 use Rattle.termwiz_surface.specs.{ChangeValue, FollowsTo, SurfaceValue, ViewerValue, due, knows, next_number, own_repaint}
 use Rattle.termwiz_surface.specs.declared.surface.SurfaceError.{SurfaceError}
 use Rattle.uses.specs.Turns.{InTurn}
-use Rattle.uses.specs.Making.{AddsList}
+use Rattle.uses.specs.Making.{MakesOrFails}
 
 module _ {W : Type 0} where
   -- what a surface answers a viewer with number n: what is due, or else its repaint
@@ -12,10 +12,10 @@ module _ {W : Type 0} where
 
 module _ {W : Type 0} (measure_of : W → List ℕ → ℕ) (s : SurfaceValue W) where
   -- the answer for its number is made on what a follower shows, where there is memory for a copy
-  abbrev pub CatchesUp :
+  abbrev pub FollowerCatchesUp :
       ViewerValue W → Result (Unit {0}) SurfaceError → ViewerValue W → Type 0
-  CatchesUp old result new =
-      AddsList (measure_of old.surface.widths) old.surface (answer_for s old.last) result
+  FollowerCatchesUp old result new =
+      MakesOrFails (measure_of old.surface.widths) old.surface (answer_for s old.last) result
       new.surface
 
   -- a viewer follows the surface, or fails to

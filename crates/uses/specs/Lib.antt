@@ -20,10 +20,10 @@ pub use Rattle.termwiz_surface.specs.{Adds, AddsScrolledOff, AddsUnlogged, All, 
 pub use Rattle.termwiz_surface.specs.declared.surface.SurfaceError.TheVariants.{ScrollRegion}
 pub use Rattle.termwiz_share.specs.Serving.{KeepsClients}
 pub use Rattle.termwiz_share.specs.{IsReady, IsResponse, PreservesServing, Serves, SourceValue, ask_of, trimmed}
-pub use Rattle.uses.specs.Serving.{ServesAll, ServesOnce, Shares, ShowsAll, Stands, TakesResponse}
+pub use Rattle.uses.specs.Serving.{ServesAll, ServesOnce, Shares, AllShowSource, Stands, TakesResponse}
 pub use Rattle.uses.specs.Turns.{InTurn}
-pub use Rattle.uses.specs.Making.{AddsAll, AddsEach, AddsList, Draws, MayRefuse, full_after}
-pub use Rattle.uses.specs.Following.{CatchesUp, FollowInTurn, FollowsOnce, Relays, RelaysTwice}
+pub use Rattle.uses.specs.Making.{MakesOrRefuses, AddsEach, MakesOrFails, DrawsOn, MayRefuse, full_after}
+pub use Rattle.uses.specs.Following.{FollowerCatchesUp, FollowInTurn, FollowsOnce, Relays, RelaysTwice}
 pub use Rattle.uses.specs.Passing.{PassesOn}
 pub use Rattle.uses.specs.FirstLetters.{SetsFirstLetters}
 pub use Rattle.uses.specs.Headings.{heading_changes}

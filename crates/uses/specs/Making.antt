@@ -15,15 +15,15 @@ MayRefuse s changes Memory = Refuses s changes (Ok tt)
 module _ {W : Type 0} (measure : List ℕ → ℕ) (old : SurfaceValue W)
     (changes : List ChangeValue) where
   -- the surface makes the list, or refuses it, as its own calls do
-  abbrev pub AddsAll : Result (Unit {0}) SurfaceError → SurfaceValue W → Type 0
-  AddsAll (Ok u) new =
+  abbrev pub MakesOrRefuses : Result (Unit {0}) SurfaceError → SurfaceValue W → Type 0
+  MakesOrRefuses (Ok u) new =
       (regions_fit old.height changes ≡ true) ×
       (next_number old.log + length changes < 2 ^ 64) × Makes measure old changes new
-  AddsAll (Err e) new = Adds measure old changes 0 (Err e) new
+  MakesOrRefuses (Err e) new = Adds measure old changes 0 (Err e) new
 
   -- or there was no memory for the list itself, and nothing has changed
-  abbrev pub AddsList : Result (Unit {0}) SurfaceError → SurfaceValue W → Type 0
-  AddsList result new = AddsAll result new ⊎ ((result ≡ Err Memory) × (new ≡ old))
+  abbrev pub MakesOrFails : Result (Unit {0}) SurfaceError → SurfaceValue W → Type 0
+  MakesOrFails result new = MakesOrRefuses result new ⊎ ((result ≡ Err Memory) × (new ≡ old))
 
 module _ {W : Type 0} (measure_of : W → List ℕ → ℕ) where
   -- the full screen that the changes make of what a surface shows
@@ -48,7 +48,7 @@ module _ {W : Type 0} (measure_of : W → List ℕ → ℕ) where
     pub mid : SurfaceValue W
     pub has_made : HasMade old made mid
     pub logged : mid.log ≡ appended old.log made
-    pub refuses : AddsAll (measure_of mid.widths) mid (refused ∷ []) (Err error) new
+    pub refuses : MakesOrRefuses (measure_of mid.widths) mid (refused ∷ []) (Err error) new
 
   -- each change is made by itself, all of them or those before one that is refused
   abbrev pub AddsEach :
@@ -58,8 +58,8 @@ module _ {W : Type 0} (measure_of : W → List ℕ → ℕ) where
   AddsEach old changes (Err error) new = StopsBefore old changes error new
 
   -- a region of another surface is drawn on one, or that fails, as its own call says
-  abbrev pub Draws :
+  abbrev pub DrawsOn :
       SurfaceValue W → SurfaceValue W → Region → Result (Unit {0}) SurfaceError → SurfaceValue W →
       Type 0
-  Draws old other r (Ok u) new = (n : ℕ) × IsDrawn measure_of old other r (Ok n) new
-  Draws old other r (Err e) new = IsDrawn measure_of old other r (Err e) new
+  DrawsOn old other r (Ok u) new = (n : ℕ) × IsDrawn measure_of old other r (Ok n) new
+  DrawsOn old other r (Err e) new = IsDrawn measure_of old other r (Err e) new

@@ -28,7 +28,7 @@ module _ {W : Type 0} where
     pub third_ready : IsReady r.third
 
   -- each client shows the screen of the source
-  pub record ShowsAll (r : RoomValue W) : Type 0 where
+  pub record AllShowSource (r : RoomValue W) : Type 0 where
     pub first : full_of r.first.surface ≡ full_of r.source.surface
     pub second : full_of r.second.surface ≡ full_of r.source.surface
     pub third : full_of r.third.surface ≡ full_of r.source.surface
@@ -81,7 +81,7 @@ module _ {W : Type 0} (measure_of : W → List ℕ → ℕ) where
     pub comes_to : result ≡ result_and (result_and to_first to_second) to_third
 
   -- the changes before one are made, and that one is refused
-  pub record StopsAt (old : SourceValue W) (changes : List ChangeValue) (error : SurfaceError)
+  pub record StopsAtChange (old : SourceValue W) (changes : List ChangeValue) (error : SurfaceError)
       (new : SourceValue W) : Type 0 where
     pub made : List ChangeValue
     pub refused : ChangeValue
@@ -108,4 +108,4 @@ module _ {W : Type 0} (measure_of : W → List ℕ → ℕ) where
   Shares old changes (Ok u) new = SharesAll old changes (Ok tt) new
   Shares old changes (Err (Unserved error)) new = SharesAll old changes (Err error) new
   Shares old changes (Err (Refused error)) new =
-      StopsAt old.source changes error new.source × (new ≡ record old { source = new.source })
+      StopsAtChange old.source changes error new.source × (new ≡ record old { source = new.source })

@@ -6,7 +6,7 @@ use Rattle.termwiz_wire.specs.declared.sent.Ask.{Ask}
 use Rattle.termwiz_share.specs.{IsResponse, SourceValue}
 use Rattle.termwiz_share.specs.Client.{ClientValue, ask_of, shown_by}
 use Rattle.termwiz_share.specs.Feeding.{Feeds}
-use Rattle.termwiz_share.specs.Histories.{Follows, Given, HasStopped, after_all}
+use Rattle.termwiz_share.specs.Histories.{ClientFollows, Given, HasStopped, after_all}
 use Rattle.termwiz_share.specs.declared.error.ClientError.{ClientError}
 use Rattle.termwiz_share.specs.declared.error.ClientError.TheVariants as errors
 use Rattle.uses.specs.Making.{MayRefuse, full_after}
@@ -122,7 +122,7 @@ module _ {W : Type 0} (measure_of : W → List ℕ → ℕ) where
       pub feeds : FeedsInTwo measure_of old stream cut result new
       pub shows :
           (histories : ℕ → ℕ → FullScreen) (sent : List Given) →
-          Follows measure_of histories sent old stream →
+          ClientFollows measure_of histories sent old stream →
           ShowsLast measure_of histories sent old result new
 
     -- or it isn't, or fails to take that

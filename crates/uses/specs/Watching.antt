@@ -2,8 +2,8 @@
 use Rattle.std.specs.Prelude.{◌≡◌, ◌⊎◌, ℕ, zero, suc, ◌+◌, ◌<◌, List, [], ◌∷◌, ◌++◌, length, Some, Ok, Err, if◌then◌else◌}
 use Rattle.termwiz_surface.specs.{FullScreen}
 use Rattle.termwiz_share.specs.Client.{ClientValue, Shown, fits, shown_by}
-use Rattle.termwiz_share.specs.Feeding.{Keeps, TakesNext, with_bytes}
-use Rattle.termwiz_share.specs.Histories.{Follows, Given, HasMore, HasStopped, after, after_all}
+use Rattle.termwiz_share.specs.Feeding.{KeepsPiece, TakesNext, with_bytes}
+use Rattle.termwiz_share.specs.Histories.{ClientFollows, Given, HasMore, HasStopped, after, after_all}
 use Rattle.termwiz_share.specs.declared.error.ClientError.{ClientError}
 use Rattle.termwiz_share.specs.declared.error.ClientError.TheVariants.{Memory, Numbers}
 use Rattle.termwiz_share.specs.declared.taken.Taken.{Taken}
@@ -42,7 +42,7 @@ module _ {W : Type 0} (measure_of : W → List ℕ → ℕ) where
   abbrev pub FailsToTakeEach :
       ClientValue W → List ℕ → ClientError → ClientValue W → Type 0
   FailsToTakeEach old piece error new =
-      Keeps old piece (Err error) new ⊎ FailsBehind (with_bytes old piece) error new
+      KeepsPiece old piece (Err error) new ⊎ FailsBehind (with_bytes old piece) error new
 
 -- what the answers that fit were given for
 abbrev pub pictures : Shown → List Given → List FullScreen
@@ -64,7 +64,7 @@ module _ {W : Type 0} (measure_of : W → List ℕ → ℕ) (histories : ℕ →
     pub all : sent ≡ given ++ others
     pub counted : count ≡ length given
     pub shows : shown_by new ≡ after_all (shown_by old) given
-    pub follows : Follows measure_of histories others new future
+    pub follows : ClientFollows measure_of histories others new future
     pub no_whole : count < most → HasMore (measure_of new.surface.widths) others new.kept
 
   -- what those that are whole were given for is shown in turn, and `stale` of them are stale
@@ -75,7 +75,7 @@ module _ {W : Type 0} (measure_of : W → List ℕ → ℕ) (histories : ℕ →
     pub all : sent ≡ given ++ others
     pub shown : screens ≡ before ++ pictures (shown_by old) given
     pub counted : stale ≡ stale_in (shown_by old) given
-    pub follows : Follows measure_of histories others new future
+    pub follows : ClientFollows measure_of histories others new future
     pub no_whole : HasMore (measure_of new.surface.widths) others new.kept
 
   -- want of memory or of numbers stops it, after some of the answers

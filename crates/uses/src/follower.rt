@@ -1,6 +1,6 @@
 //! A follower of your own, which is sent what changed since it asked last.
 ghost use Rattle.std.specs.Prelude.{◌≡◌, ◌∷◌, [], Err, IfOk, OnErr, OnOk, false};
-ghost use Rattle.uses.specs.{AddsAll, CatchesUp, Follows, InTurn, ScrollRegion, ViewerValue};
+ghost use Rattle.uses.specs.{MakesOrRefuses, FollowerCatchesUp, Follows, InTurn, ScrollRegion, ViewerValue};
 ghost use Rattle.uses.specs.{blank_surface, change_value, measure, next_number, screen_after};
 ghost use Rattle.uses.specs.{screen_of};
 
@@ -66,7 +66,7 @@ impl<W: Widths> Follower<W> {
         ensures shown { OnOk result (screen_of self.new.surface ≡ screen_of surface.now) }
         ensures numbered { OnOk result (self.new.last ≡ next_number surface.now.log) }
         // It makes what it lacks, or a repaint where the surface doesn't know its number.
-        ensures adds { CatchesUp (measure W.width_of) surface.now self.old result self.new }
+        ensures adds { FollowerCatchesUp (measure W.width_of) surface.now self.old result self.new }
         ensures no_scroll { result ≡ Err ScrollRegion → ⊥ }
         // It can catch up again, after an error too.
         ensures follows { Follows (measure W.width_of) self.new surface.now }
@@ -104,9 +104,9 @@ pub fn make_and_show<W: Widths>(
     ensures made { OnOk result (screen_of surface.new
         ≡ screen_after (measure W.width_of) surface.old (change_value change ∷ [])) }
     ensures either { InTurn
-        (λ r. AddsAll (measure W.width_of surface.old.widths)
+        (λ r. MakesOrRefuses (measure W.width_of surface.old.widths)
         surface.old (change_value change ∷ []) r surface.new) (follower.new ≡ follower.old)
-        (λ r. CatchesUp (measure W.width_of) surface.new follower.old r follower.new) result }
+        (λ r. FollowerCatchesUp (measure W.width_of) surface.new follower.old r follower.new) result }
     ensures shown { OnOk result (screen_of follower.new.surface ≡ screen_of surface.new) }
     ensures follows { Follows (measure W.width_of) follower.new surface.new }
     ensures width { follower.new.surface.width ≡ surface.new.width }

@@ -1,6 +1,6 @@
 //! The last row of a surface: cleared, or drawn as a status line.
 ghost use Rattle.std.specs.Prelude.{◌≡◌, ◌+◌, ◌-◌, ◌<◌, IfOk, OnOk, map, ℕ};
-ghost use Rattle.uses.specs.{AddsList, appended, blank_in, change_value, last_row_cleared};
+ghost use Rattle.uses.specs.{MakesOrFails, appended, blank_in, change_value, last_row_cleared};
 ghost use Rattle.uses.specs.{measure, next_number, row_at, screen_after, screen_of, status_line};
 ghost use Rattle.uses.specs.{stored};
 
@@ -17,7 +17,7 @@ pub fn clear_last_row<W: Widths>(
     surface: &mut Surface<W>,
     background: ColorAttribute,
 ) -> Result<(), SurfaceError>
-    ensures adds { AddsList (measure W.width_of surface.old.widths)
+    ensures adds { MakesOrFails (measure W.width_of surface.old.widths)
         surface.old (last_row_cleared background) result surface.new }
     ensures above { OnOk result ((j : ℕ) → j < surface.old.height - 1 →
         row_at (screen_of surface.new).rows j ≡ row_at (screen_of surface.old).rows j) }
@@ -59,7 +59,7 @@ pub fn draw_status<W: Widths>(
     pen: CellAttributes,
     text: &str,
 ) -> Result<(), SurfaceError>
-    ensures adds { AddsList (measure W.width_of surface.old.widths)
+    ensures adds { MakesOrFails (measure W.width_of surface.old.widths)
         surface.old (status_line background pen text.now) result surface.new }
     ensures ok { OnOk result (screen_of surface.new
         ≡ screen_after (measure W.width_of) surface.old (status_line background pen text.now)) }

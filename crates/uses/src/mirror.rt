@@ -1,6 +1,6 @@
 //! A viewer of your own, which mirrors a surface by repaints.
 ghost use Rattle.std.specs.Prelude.{◌≡◌, IfOk, OnOk, false};
-ghost use Rattle.uses.specs.{AddsList, SurfaceValue, blank_surface, measure, own_repaint};
+ghost use Rattle.uses.specs.{MakesOrFails, SurfaceValue, blank_surface, measure, own_repaint};
 ghost use Rattle.uses.specs.{screen_of};
 
 use std::alloc::{AllocError, Global};
@@ -51,7 +51,7 @@ impl<W: Widths> Mirror<W> {
         requires same_height { self.old.height ≡ surface.now.height }
         requires same_widths { self.old.widths ≡ surface.now.widths }
         ensures ok { OnOk result (screen_of self.new ≡ screen_of surface.now) }
-        ensures adds { AddsList (measure W.width_of self.old.widths)
+        ensures adds { MakesOrFails (measure W.width_of self.old.widths)
             self.old (own_repaint surface.now) result self.new }
         ensures width { self.new.width ≡ self.old.width }
         ensures height { self.new.height ≡ self.old.height }

@@ -1,6 +1,6 @@
 //! A server between a source and its clients, which passes on what another client was answered.
 ghost use Rattle.std.specs.Prelude.{◌≡◌, ◌↔◌, ◌⊎◌, IsTrue, Ok, false, true};
-ghost use Rattle.termwiz_share.specs.{Shows, SourceValue};
+ghost use Rattle.termwiz_share.specs.{ShowsSource, SourceValue};
 ghost use Rattle.uses.specs.{IsReady, IsResponse, PassesOn, Serves, ask_of, measure};
 ghost use Rattle.termwiz_wire.specs.declared.sent.Ask.{Ask};
 
@@ -20,7 +20,7 @@ pub fn pass_on<W: Widths>(client: &mut Client<W>, response: &[u8]) -> Result<boo
     ensures shows { (source : SourceValue W) (ask : Ask) →
         Serves (measure W.width_of) source client.old → IsReady client.old →
         IsResponse (measure W.width_of) source ask response.now → result ≡ Ok true →
-        Shows source client.new × IsReady client.new }
+        ShowsSource source client.new × IsReady client.new }
     // It can be served as before, after an error too.
     ensures serves { (source : SourceValue W) (ask : Ask) →
         Serves (measure W.width_of) source client.old → IsReady client.old →

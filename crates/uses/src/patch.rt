@@ -2,7 +2,7 @@
 ghost use Rattle.std.specs.Prelude.{◌≡◌, ◌≤◌, ◌*◌, ◌↔◌, IfOk, IsTrue, List, OnOk, length, map};
 ghost use Rattle.uses.specs.{AreRows, CellValue, IsDiff, MeasureAlike, Print, PrintsWithin, need};
 ghost use Rattle.uses.specs.{change_value, measure, print_all, printed, screen_after, screen_of};
-ghost use Rattle.uses.specs.{AddsAll, PrintsRegion, whole};
+ghost use Rattle.uses.specs.{MakesOrRefuses, PrintsRegion, whole};
 
 use std::alloc::AllocError;
 use termwiz_surface::laws::{diff_laws, equality_laws, fewest_prints};
@@ -45,7 +45,7 @@ pub fn apply_patch<W: Widths>(
     surface: &mut Surface<W>,
     patch: Vec<Change>,
 ) -> Result<(), SurfaceError>
-    ensures adds { AddsAll (measure W.width_of surface.old.widths)
+    ensures adds { MakesOrRefuses (measure W.width_of surface.old.widths)
         surface.old (map change_value patch.items) result surface.new }
     ensures made { OnOk result (screen_of surface.new
         ≡ screen_after (measure W.width_of) surface.old (map change_value patch.items)) }

@@ -7,7 +7,8 @@ ghost use Rattle.uses.specs.{settings_changes};
 
 use std::alloc::AllocError;
 use termwiz_surface::{
-    CellAttributes, Change, ColorAttribute, LentChange, SequenceNo, Surface, SurfaceError, Widths,
+    CellAttributes, Change, ChangeList, ColorAttribute, LentChange, LentChanges, NoScrollback,
+    SequenceNo, Surface, SurfaceError, Widths,
 };
 
 /// Prints what a program wrote, and sets the title that it gave. Neither text is copied or logged,
@@ -30,7 +31,11 @@ pub fn show_output<W: Widths>(
     ensures log { OnOk result (surface.new.log ≡ passed surface.old.log 2) }
     ensures no_scroll { result ≡ Err ScrollRegion → ⊥ }
 {
-    surface.add_unlogged(&[LentChange::Text(output), LentChange::Title(title)])
+    let changes = [LentChange::Text(output), LentChange::Title(title)];
+    surface.add(
+        ChangeList::Unlogged(LentChanges(&changes)),
+        &mut NoScrollback,
+    )
 }
 
 /// Shows these columns of a row, as a heading or a line of state, in another row too. Cursor and
@@ -92,8 +97,12 @@ pub fn restore_settings<W: Widths>(
     ensures log { OnOk result (surface.new.log ≡ passed surface.old.log 2) }
     ensures no_scroll { result ≡ Err ScrollRegion → ⊥ }
 {
-    surface.add_unlogged(&[
+    let changes = [
         LentChange::Owned(Change::AllAttributes(settings.pen)),
         LentChange::Owned(Change::CursorColor(settings.color)),
-    ])
+    ];
+    surface.add(
+        ChangeList::Unlogged(LentChanges(&changes)),
+        &mut NoScrollback,
+    )
 }

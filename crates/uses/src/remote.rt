@@ -1,7 +1,7 @@
 //! A remote terminal, to which a session's title and its headings of double width go as its rows
 //! do.
 ghost use Rattle.std.specs.Prelude.{◌≡◌, Err, IfOk, OnOk, map, slice_index_or, true};
-ghost use Rattle.uses.specs.{AddsList, DoubleWidthLine, Follows, FollowsOnce, InTurn};
+ghost use Rattle.uses.specs.{MakesOrFails, DoubleWidthLine, Follows, FollowsOnce, InTurn};
 ghost use Rattle.uses.specs.{ScrollRegion, SingleWidthLine, change_value, full_of};
 ghost use Rattle.uses.specs.{heading_changes, measure};
 
@@ -32,7 +32,7 @@ pub fn show_heading<W: Widths>(
         slice_index_or shown.lines shown.screen.y SingleWidthLine ≡ DoubleWidthLine) }
     // Which of the two fails, and when.
     ensures either { InTurn
-        (λ r. AddsList (measure W.width_of session.old.widths)
+        (λ r. MakesOrFails (measure W.width_of session.old.widths)
         session.old (heading_changes heading.now) r session.new) (remote.new ≡ remote.old)
         (λ r. FollowsOnce (measure W.width_of) session.new remote.old r remote.new) result }
     ensures no_scroll { result ≡ Err ScrollRegion → ⊥ }

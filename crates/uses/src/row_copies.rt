@@ -1,7 +1,7 @@
 //! Copies of a surface's rows, as a renderer has them that paints row by row: just the rows that
 //! may have changed are copied again.
 ghost use Rattle.std.specs.Prelude.{◌≡◌, ◌<◌, ◌≤◌, IfOk, OnErr, OnOk, length, map, ℕ};
-ghost use Rattle.uses.specs.{AddsAll, AreCopiesAt, CopiesRows, InTurn, KeepsOthers, MayDiffer};
+ghost use Rattle.uses.specs.{MakesOrRefuses, AreCopiesAt, CopiesRows, InTurn, KeepsOthers, MayDiffer};
 ghost use Rattle.uses.specs.{cells_of, change_value, measure, next_number, number_at, row_of};
 ghost use Rattle.uses.specs.{rows_shown, screen_after, screen_of, shown_at};
 
@@ -86,7 +86,7 @@ pub fn show<W: Widths>(
     // The changes are made, and then the rows are copied.
     ensures shows { OnOk result (screen_of surface.new
         ≡ screen_after (measure W.width_of) surface.old (map change_value changes.items)) }
-    ensures either { InTurn (λ r. AddsAll (measure W.width_of surface.old.widths)
+    ensures either { InTurn (λ r. MakesOrRefuses (measure W.width_of surface.old.widths)
         surface.old (map change_value changes.items) r surface.new)
         (copies.new ≡ copies.old)
         (CopiesRows (next_number surface.old.log) surface.new) result }

@@ -8,7 +8,8 @@ ghost use Rattle.uses.specs.{IsWhole, IsWrapped, LineValue, line_contents, line_
 use std::alloc::AllocError;
 use termwiz_surface::laws::{cut_laws, edit_laws, storage_laws};
 use termwiz_surface::{
-    LentChange, Line, SEQ_ZERO, Scrollback, SequenceNo, Surface, SurfaceError, Widths,
+    ChangeList, LentChange, LentChanges, Line, SEQ_ZERO, Scrollback, SequenceNo, Surface,
+    SurfaceError, Widths,
 };
 
 /// Prints what a program wrote, and moves the rows that it scrolls off the top of the screen to the
@@ -34,7 +35,10 @@ pub fn print_and_keep<W: Widths>(
         (rows_scrolled_off (measure W.width_of surface.old.widths) (screen_of surface.old)
         (kept_of surface.old) (printed_text output.now))) }
 {
-    surface.add_unlogged_scrolling(&[LentChange::Text(output)], kept)
+    surface.add(
+        ChangeList::Unlogged(LentChanges(&[LentChange::Text(output)])),
+        kept,
+    )
 }
 
 /// Removes the oldest lines, so that no more than `limit` are kept.

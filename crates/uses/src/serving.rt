@@ -2,7 +2,7 @@
 ghost use Rattle.std.specs.Prelude.{◌≡◌, ◌⊎◌, ◌+◌, ◌<◌, ◌≤◌, ◌∷◌, [], IfErr, IfOk, OnErr, OnOk};
 ghost use Rattle.std.specs.Prelude.{map, take, true, vec_len};
 ghost use Rattle.uses.specs.{Adds, IsReady, IsResponse, IsSurfaceSize, KeepsClients};
-ghost use Rattle.uses.specs.{MayRefuse, Serves, ServesAll, ServesOnce, Shares, ShowsAll, Stands};
+ghost use Rattle.uses.specs.{MayRefuse, Serves, ServesAll, ServesOnce, Shares, AllShowSource, Stands};
 ghost use Rattle.uses.specs.{blank_surface, change_value, full_after, full_of, measure};
 ghost use Rattle.uses.specs.{PreservesServing, SourceValue, TakesResponse, ask_of};
 ghost use Rattle.uses.specs.{next_number, trimmed};
@@ -151,7 +151,7 @@ impl<W: Widths> Room<W> {
     /// over, and the first such error is returned. The screen stays, and the next call serves all
     /// clients anew.
     pub fn serve_all(&mut self) -> Result<(), ClientError>
-        ensures shows { OnOk result (ShowsAll self.new) }
+        ensures shows { OnOk result (AllShowSource self.new) }
         // Each is served, or fails to be for a reason of its own.
         ensures serves { ServesAll (measure W.width_of) self.old result self.new }
         ensures same { full_of self.new.source.surface ≡ full_of self.old.source.surface }
@@ -169,7 +169,7 @@ impl<W: Widths> Room<W> {
     /// It stops at a change that is refused, and serves none then. `ShareError` says what stands
     /// after each error. Each client can be served anew.
     pub fn share(&mut self, changes: Vec<Change>) -> Result<(), ShareError>
-        ensures shows { OnOk result (ShowsAll self.new) }
+        ensures shows { OnOk result (AllShowSource self.new) }
         ensures shares { Shares (measure W.width_of) self.old
             (map change_value changes.items) result self.new }
     {

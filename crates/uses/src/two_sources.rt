@@ -1,7 +1,7 @@
 //! One client of two sources: whatever order their answers come in, and however often, it shows
 //! what the last one that fits was given for.
 ghost use Rattle.std.specs.Prelude.{◌≡◌, ◌≢◌, ◌∷◌, ◌++◌, [], IfErr, IfOk, List, OnOk, ℕ};
-ghost use Rattle.termwiz_share.specs.{Follows, Given, Shows};
+ghost use Rattle.termwiz_share.specs.{ClientFollows, Given, ShowsSource};
 ghost use Rattle.uses.specs.{KeepsClients};
 ghost use Rattle.uses.specs.{AnswersTwice, FailsToAnswer, FailsToAnswerBoth, FailsToShow};
 ghost use Rattle.uses.specs.{FeedsBoth, FeedsInTwo, FullScreen, HasNoFault, IsPastOf};
@@ -29,7 +29,7 @@ pub fn feed_in_two<W: Widths>(
 ) -> Result<(), ClientError>
     // Whatever sources the answers come from, and wherever they are cut.
     ensures shows { (histories : ℕ → ℕ → FullScreen) (sent : List Given) →
-        Follows (measure W.width_of) histories sent client.old stream.now →
+        ClientFollows (measure W.width_of) histories sent client.old stream.now →
         ShowsLast (measure W.width_of) histories sent client.old result client.new }
     // It fails as `Client::feed` does on one of the pieces.
     ensures feeds { FeedsInTwo (measure W.width_of) client.old stream.now cut result client.new }
@@ -61,7 +61,7 @@ pub fn show_both<W: Widths>(
     ensures shows { (past second_past : ℕ → FullScreen) →
         IsPastOf full_screens (measure W.width_of) past first.old.surface →
         IsPastOf full_screens (measure W.width_of) second_past second.old.surface →
-        IfOk result (λ client. Shows second.new client) }
+        IfOk result (λ client. ShowsSource second.new client) }
     ensures no_fault { (past second_past : ℕ → FullScreen) →
         IsPastOf full_screens (measure W.width_of) past first.old.surface →
         IsPastOf full_screens (measure W.width_of) second_past second.old.surface →

@@ -2,7 +2,7 @@
 //! answers.
 ghost use Rattle.std.specs.Prelude.{◌≡◌, ◌∷◌, ◌++◌, ◌≤◌, [], IfErr, IfOk, List, OnErr, OnOk};
 ghost use Rattle.std.specs.Prelude.{map, ℕ};
-ghost use Rattle.termwiz_share.specs.{Follows, Given};
+ghost use Rattle.termwiz_share.specs.{ClientFollows, Given};
 ghost use Rattle.uses.specs.{FailsAfterSome, FailsToTakeEach, FullScreen as Picture, ShowsEach};
 ghost use Rattle.uses.specs.{StopsShowing, TakesSome, full_of, full_value, measure};
 
@@ -20,13 +20,13 @@ pub fn show_each<W: Widths>(
 ) -> Result<usize, ClientError>
     // Of a stream that the client follows: what each answer that fits was given for.
     ensures shows { (histories : ℕ → ℕ → Picture) (sent : List Given) (future : List ℕ) →
-        Follows (measure W.width_of) histories sent client.old (piece.now ++ future) →
+        ClientFollows (measure W.width_of) histories sent client.old (piece.now ++ future) →
         IfOk result (λ stale. ShowsEach (measure W.width_of) histories sent future
         client.old (map full_value screens.old.items)
         stale client.new (map full_value screens.new.items)) }
     // It fails for want of memory or of numbers alone, and some of them are shown then.
     ensures fails { (histories : ℕ → ℕ → Picture) (sent : List Given) (future : List ℕ) →
-        Follows (measure W.width_of) histories sent client.old (piece.now ++ future) →
+        ClientFollows (measure W.width_of) histories sent client.old (piece.now ++ future) →
         IfErr result (λ error. StopsShowing (measure W.width_of) histories sent future
         client.old (map full_value screens.old.items)
         error client.new (map full_value screens.new.items)) }
@@ -68,7 +68,7 @@ pub fn take_some<W: Widths>(client: &mut Client<W>, most: usize) -> Result<usize
     // Of a stream that the client follows it shows what the last of them that fits was given for,
     // and follows the others.
     ensures follows { (histories : ℕ → ℕ → Picture) (sent : List Given) (future : List ℕ) →
-        Follows (measure W.width_of) histories sent client.old future → IfOk result (λ count.
+        ClientFollows (measure W.width_of) histories sent client.old future → IfOk result (λ count.
         TakesSome (measure W.width_of) histories sent future most client.old count client.new) }
     // It fails as the call that takes one answer does, after some that it took.
     ensures fails { IfErr result (λ error.

@@ -1,6 +1,6 @@
 //! A window of widgets, and a viewer that shows it.
 ghost use Rattle.std.specs.Prelude.{◌≡◌, Err, OnOk};
-ghost use Rattle.uses.specs.{Draws, FollowsOnce, Follows, HasDrawn, InTurn, IsDrawn, ScrollRegion};
+ghost use Rattle.uses.specs.{DrawsOn, FollowsOnce, Follows, HasDrawn, InTurn, IsDrawn, ScrollRegion};
 ghost use Rattle.uses.specs.{measure, region_at, screen_of, whole_at};
 
 use termwiz_surface::{SequenceNo, Surface, SurfaceError, Viewer, Widths};
@@ -26,7 +26,7 @@ pub fn show_widget<W: Widths>(
         window.old widget.now (whole_at widget.now x y) (screen_of viewer.new.surface)) }
     // Where the widget isn't drawn, the viewer is as it was.
     ensures either { InTurn
-        (λ r. Draws (measure W.width_of) window.old widget.now (whole_at widget.now x y) r
+        (λ r. DrawsOn (measure W.width_of) window.old widget.now (whole_at widget.now x y) r
         window.new)
         (viewer.new ≡ viewer.old)
         (λ r. FollowsOnce (measure W.width_of) window.new viewer.old r viewer.new) result }

@@ -3,8 +3,8 @@ use crate::surfaces::measure::Measure;
 use playing::turn::Turn;
 use termwiz_cell::change::{Change, SequenceNo};
 use termwiz_line::line::line::Line;
-use termwiz_surface::Scrollback;
-use termwiz_surface::surface::{LentChange, Surface, SurfaceError};
+use termwiz_surface::surface::{ChangeList, LentChange, LentChanges, Surface, SurfaceError};
+use termwiz_surface::{NoScrollback, Scrollback};
 
 /// Makes the changes, logged or not, and keeps what they scroll off where there is a scrollback.
 pub fn make_list(
@@ -15,19 +15,29 @@ pub fn make_list(
     scrollback: &mut Option<Scrollback>,
 ) -> Option<Result<SequenceNo, SurfaceError>> {
     if logged {
-        return Some(match scrollback {
-            Some(scrollback) => surface.add_changes_scrolling(list, scrollback),
-            None => surface.add_changes(list),
-        });
+        return Some(add(surface, ChangeList::Owned(list), scrollback));
     }
     let lent = lent(turn, list.as_slice());
     if turn.has_failed() {
         return None;
     }
-    Some(match scrollback {
-        Some(scrollback) => surface.add_unlogged_scrolling(lent.as_slice(), scrollback),
-        None => surface.add_unlogged(lent.as_slice()),
-    })
+    Some(add(
+        surface,
+        ChangeList::Unlogged(LentChanges(lent.as_slice())),
+        scrollback,
+    ))
+}
+
+// Makes the changes, and keeps what they scroll off where there is a scrollback.
+fn add(
+    surface: &mut Surface<Measure>,
+    list: ChangeList<'_>,
+    scrollback: &mut Option<Scrollback>,
+) -> Result<SequenceNo, SurfaceError> {
+    match scrollback {
+        Some(scrollback) => surface.add(list, scrollback),
+        None => surface.add(list, &mut NoScrollback),
+    }
 }
 
 // The changes with texts and titles that are lent.

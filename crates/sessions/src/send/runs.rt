@@ -1,10 +1,10 @@
 //! What is sent of a source: its answers as bytes, each for a viewer that took all before it.
 ghost use Rattle.std.specs.Prelude.{◌<◌, IfOk, List, ℕ};
 ghost use Rattle.std.specs.List.{All};
-ghost use Rattle.sessions.specs.Answering.{Answers, Does};
+ghost use Rattle.sessions.specs.Answering.{AnswersRequest, Does};
 ghost use Rattle.sessions.specs.Frames.{IsChain};
 ghost use Rattle.sessions.specs.Requests.{IsRequestInRange};
-ghost use Rattle.sessions.specs.SendSteps.{HasNamed, Steps};
+ghost use Rattle.sessions.specs.SendSteps.{HasNamed, SendsOn};
 ghost use Rattle.sessions.specs.Sending.{AreSent, Happens, IsAnswered, IsSendInRange, columns};
 ghost use Rattle.termwiz_share.specs.Client.{Shown};
 ghost use Rattle.termwiz_share.specs.Histories.{Given};
@@ -86,7 +86,7 @@ pub(crate) fn answered(
 ) -> Result<SendOutcome, AllocError>
     requires in_range { IsRequestInRange request }
     ensures { IfOk result (λ outcome.
-        Answers source.old last.old request outcome source.new last.new) }
+        AnswersRequest source.old last.old request outcome source.new last.new) }
 {
     match request {
         Request::Event(event) => serve(alloc, source, last, event),
@@ -106,7 +106,7 @@ fn serve(
 ) -> Result<SendOutcome, AllocError>
     requires in_range { IsSendInRange event }
     ensures steps { IfOk result (λ outcome. (v : Shown) → HasNamed source.old last.old v →
-        Steps source.old last.old v event outcome source.new last.new) }
+        SendsOn source.old last.old v event outcome source.new last.new) }
     ensures does { IfOk result (λ outcome.
         Does source.old last.old event outcome source.new last.new) }
 {

@@ -1,6 +1,6 @@
 //! What a client shows, and how it takes an answer.
 ghost use Rattle.std.specs.Prelude.{◌≡◌, ◌<◌, [], IfOk, false};
-ghost use Rattle.termwiz_share.specs.{DisplayValue, IsSurfaceSize, NumbersRows, Takes};
+ghost use Rattle.termwiz_share.specs.{DisplayValue, IsSurfaceSize, NumbersRows, DisplayTakes};
 ghost use Rattle.termwiz_share.specs.{blank_surface};
 ghost use Rattle.termwiz_share.specs.{fits, is_repaint, lent_answer, measure, nameless, shown_on};
 ghost use Rattle.termwiz_share.specs.{size_place, stale_place, suits, true};
@@ -12,7 +12,7 @@ use std::alloc::{AllocError, Global};
 use std::marker::Model;
 use termwiz_cell::change::SequenceNo;
 use termwiz_cell::emoji::Widths;
-use termwiz_surface::Surface;
+use termwiz_surface::{ChangeList, LentChanges, NoScrollback, Surface};
 use termwiz_wire::{LentAnswer, SourceNo};
 
 /// A full surface that keeps no changes, and the source and the number of the answer that was taken
@@ -84,7 +84,7 @@ impl<W: Widths> Display<W> {
     pub(super) fn take(&mut self, answer: LentAnswer<'_>) -> Result<Taken, ClientError>
         requires named { 0 < answer.source }
         requires sized { IsSurfaceSize answer.width answer.height }
-        ensures takes { Takes (measure W.width_of)
+        ensures takes { DisplayTakes (measure W.width_of)
             self.old (lent_answer answer.entry) result self.new }
         ensures numbered { NumbersRows self.old.surface self.new.surface }
     {
@@ -108,7 +108,7 @@ impl<W: Widths> Display<W> {
         requires some { 0 < answer.source }
         requires sized { IsSurfaceSize answer.width answer.height }
         requires repaint { is_repaint (lent_answer answer).answer ≡ true }
-        ensures takes { Takes (measure W.width_of)
+        ensures takes { DisplayTakes (measure W.width_of)
             self.old (lent_answer answer.entry) result self.new }
         ensures numbered { NumbersRows self.old.surface self.new.surface }
     {
@@ -119,7 +119,13 @@ impl<W: Widths> Display<W> {
         }
         let (width, height, widths) = (answer.width, answer.height, self.surface.widths());
         let mut surface = Surface::new_full_from(self.alloc, width, height, widths, number + 1)?;
-        if surface.add_unlogged(&answer.changes).is_err() {
+        if surface
+            .add(
+                ChangeList::Unlogged(LentChanges(&answer.changes)),
+                &mut NoScrollback,
+            )
+            .is_err()
+        {
             return Err(ClientError::Memory);
         }
         self.surface = surface;
@@ -135,7 +141,7 @@ impl<W: Widths> Display<W> {
         requires fits { fits (shown_on self.old) (lent_answer answer) ≡ true }
         requires size { suits self.old.surface.width self.old.surface.height
             (lent_answer answer).answer ≡ true }
-        ensures takes { Takes (measure W.width_of)
+        ensures takes { DisplayTakes (measure W.width_of)
             self.old (lent_answer answer.entry) result self.new }
         ensures numbered { NumbersRows self.old.surface self.new.surface }
     {
@@ -143,7 +149,14 @@ impl<W: Widths> Display<W> {
             self.forget();
             return Err(ClientError::Numbers);
         }
-        if self.surface.add_unlogged(&answer.changes).is_err() {
+        if self
+            .surface
+            .add(
+                ChangeList::Unlogged(LentChanges(&answer.changes)),
+                &mut NoScrollback,
+            )
+            .is_err()
+        {
             self.forget();
             return Err(ClientError::Memory);
         }

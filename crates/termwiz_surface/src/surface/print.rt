@@ -7,9 +7,11 @@ ghost use Rattle.termwiz_surface.specs.{AreWide, is_plain, list_all, one_kept, p
 ghost use Rattle.termwiz_surface.specs.{Becomes, chars, false, kept_of, measure, returned, wrapped};
 ghost use Rattle.termwiz_surface.specs.{cursor_row, down_touches, one_touches, touched_by};
 ghost use Rattle.termwiz_surface.specs.{IfOk, OnOk, down, left_behind_first, left_by, print, true};
-ghost use Rattle.termwiz_surface.specs.{wrap_touches};
+ghost use Rattle.termwiz_surface.specs.{BeginsRows, LeavesRows, ScrollsOff, wrap_touches};
+ghost use Rattle.std.specs.Prelude.{IsTrue};
 
 use super::Surface;
+use crate::scrollback::LineSink;
 use std::alloc::AllocError;
 use termwiz_cell::cell::Cell;
 use termwiz_cell::emoji::Widths;
@@ -181,7 +183,7 @@ impl<W: Widths> Surface<W> {
 
     // Prints the run of ASCII or of letters, or the CR LF, that the text begins with, or else its
     // first grapheme, and returns the rest.
-    pub(super) fn print_first<'a>(&mut self, text: &'a str) -> Result<&'a str, AllocError>
+    fn print_first<'a>(&mut self, text: &'a str) -> Result<&'a str, AllocError>
         requires { 0 < length text.now }
         ensures ok { IfOk result (λ rest. PrintsFirst (measure W.width_of self.old.widths)
             self.old text.now rest.now self.new) }
@@ -216,17 +218,69 @@ impl<W: Widths> Surface<W> {
         Ok(rest)
     }
 
-    pub(super) fn print_text(&mut self, text: &str) -> Result<(), AllocError>
+    // Prints what the text begins with, and returns the rest. Where this scrolls row 0 off, that
+    // row goes to the lines that are kept.
+    fn print_next<'a, L: LineSink>(
+        &mut self,
+        text: &'a str,
+        lines: &mut L,
+    ) -> Result<&'a str, AllocError>
+        requires { 0 < length text.now }
+        ensures ok { IfOk result (λ rest. PrintsFirst (measure W.width_of self.old.widths)
+            self.old text.now rest.now self.new) }
+        ensures scrolls { IfOk result (λ rest. IsTrue L.KEEPS →
+            let f = measure W.width_of self.old.widths in
+            LeavesRows self.old.width
+            (left_by f (screen_of self.old) (kept_of self.old) (graphemes true text.now))
+            (left_by f (screen_of self.new) (kept_of self.new) (graphemes true rest.now))
+            (L.lines_of lines.old) (L.lines_of lines.new)) }
+        ensures err { OnErr result (SameFrame self.old self.new) }
+        ensures kept { OnErr result (IsTrue L.KEEPS → BeginsRows self.old.width
+            (left_by (measure W.width_of self.old.widths) (screen_of self.old)
+            (kept_of self.old) (graphemes true text.now))
+            (L.lines_of lines.old) (L.lines_of lines.new)) }
+        ensures spare { L.spare_of lines.new ≤ L.spare_of lines.old }
+    {
+        // A surface has a row 0.
+        let _ = &self.rows;
+        if !L::KEEPS {
+            let rest = self.print_first(text)?;
+            return Ok(rest);
+        }
+        if !self.first_leaves(text) {
+            let rest = self.print_first(text)?;
+            return Ok(rest);
+        }
+        // The row that is printed below is moved up over this one.
+        self.take_row(0, lines)?;
+        let rest = self.print_first(text)?;
+        Ok(rest)
+    }
+
+    pub(super) fn print_text<L: LineSink>(
+        &mut self,
+        text: &str,
+        lines: &mut L,
+    ) -> Result<(), AllocError>
         ensures ok { OnOk result (let f = measure W.width_of self.old.widths in
             let s = screen_of self.old in
             Becomes self.old (print f s text.now)
             (print_kept f s text.now (kept_of self.old))
             (touched_by f s (graphemes true text.now)) self.new) }
+        ensures scrolls { OnOk result (IsTrue L.KEEPS → ScrollsOff self.old.width
+            (left_by (measure W.width_of self.old.widths) (screen_of self.old)
+            (kept_of self.old) (graphemes true text.now))
+            (L.lines_of lines.old) (L.lines_of lines.new)) }
         ensures err { OnErr result (SameFrame self.old self.new) }
+        ensures kept { OnErr result (IsTrue L.KEEPS → BeginsRows self.old.width
+            (left_by (measure W.width_of self.old.widths) (screen_of self.old)
+            (kept_of self.old) (graphemes true text.now))
+            (L.lines_of lines.old) (L.lines_of lines.new)) }
+        ensures spare { L.spare_of lines.new ≤ L.spare_of lines.old }
     {
         let mut rest = text;
         'pieces: while !rest.is_empty() {
-            rest = self.print_first(rest)?;
+            rest = self.print_next(rest, lines)?;
         }
         Ok(())
     }

@@ -10,8 +10,13 @@ ghost use Rattle.termwiz_surface.specs.{kept_of, measure, region_up, screen_of, 
 ghost use Rattle.termwiz_surface.specs.{cursor_row, eol_touches, every_row, no_row, touched};
 ghost use Rattle.termwiz_surface.specs.{OnErr, blank, length, map, placed, replay, step, touches};
 ghost use Rattle.termwiz_surface.specs.{scroll_touches, true};
+ghost use Rattle.std.specs.Prelude.{IsTrue};
+ghost use Rattle.termwiz_surface.specs.{BeginsRows, ScrollsOff, left_step, lent_value};
+ghost use Rattle.termwiz_surface.specs.{rows_scrolled_off};
 
 use super::Surface;
+use super::lists::LentChange;
+use crate::scrollback::LineSink;
 use std::alloc::AllocError;
 use termwiz_cell::cell::AttributeChange;
 use termwiz_cell::change::{Change, LineAttribute, Position};
@@ -188,19 +193,32 @@ impl<W: Widths> Surface<W> {
         Ok(())
     }
 
-    pub(super) fn apply(&mut self, change: &Change) -> Result<(), AllocError>
+    pub(super) fn apply<L: LineSink>(
+        &mut self,
+        change: &Change,
+        lines: &mut L,
+    ) -> Result<(), AllocError>
         requires { region_fits self.old.height (change_value change.now) ≡ true }
         ensures ok { OnOk result (let f = measure W.width_of self.old.widths in
             let s = screen_of self.old in
             Becomes self.old (step f s (change_value change.now))
             (step_kept f s (kept_of self.old) (change_value change.now))
             (touches f s (change_value change.now)) self.new) }
+        ensures scrolls { OnOk result (IsTrue L.KEEPS → ScrollsOff self.old.width
+            (left_step (measure W.width_of self.old.widths) (screen_of self.old)
+            (kept_of self.old) (change_value change.now))
+            (L.lines_of lines.old) (L.lines_of lines.new)) }
         ensures err { OnErr result (SameFrame self.old self.new) }
+        ensures kept { OnErr result (IsTrue L.KEEPS → BeginsRows self.old.width
+            (left_step (measure W.width_of self.old.widths) (screen_of self.old)
+            (kept_of self.old) (change_value change.now))
+            (L.lines_of lines.old) (L.lines_of lines.new)) }
+        ensures spare { L.spare_of lines.new ≤ L.spare_of lines.old }
     {
         match change {
             Change::Attribute(change) => return self.change_pen(change),
             Change::AllAttributes(attrs) => self.pen = attrs.clone()?,
-            Change::Text(text) => return self.print_text(text.as_str()),
+            Change::Text(text) => return self.print_text(text.as_str(), lines),
             Change::ClearScreen(color) => return self.clear_screen(color),
             Change::ClearToEndOfLine(color) => return self.clear_to_end_of_line(color),
             Change::ClearToEndOfScreen(color) => return self.clear_to_end_of_screen(color),
@@ -212,7 +230,7 @@ impl<W: Widths> Surface<W> {
                 first_row,
                 region_size,
                 scroll_count,
-            } => return self.scroll_region_up(*first_row, *region_size, *scroll_count),
+            } => return self.scroll_up(*first_row, *region_size, *scroll_count, lines),
             Change::ScrollRegionDown {
                 first_row,
                 region_size,
@@ -224,19 +242,91 @@ impl<W: Widths> Surface<W> {
         Ok(())
     }
 
-    pub(super) fn apply_all(&mut self, changes: &[Change]) -> Result<(), AllocError>
+    pub(super) fn apply_all<L: LineSink>(
+        &mut self,
+        changes: &[Change],
+        lines: &mut L,
+    ) -> Result<(), AllocError>
         requires { regions_fit self.old.height (map change_value changes.now) ≡ true }
         ensures ok { OnOk result (let f = measure W.width_of self.old.widths in
             let s = screen_of self.old in
             Becomes self.old (replay f s (map change_value changes.now))
             (replay_kept f s (kept_of self.old) (map change_value changes.now))
             (touched f s (map change_value changes.now)) self.new) }
+        ensures scrolls { OnOk result (IsTrue L.KEEPS → ScrollsOff self.old.width
+            (rows_scrolled_off (measure W.width_of self.old.widths) (screen_of self.old)
+            (kept_of self.old) (map change_value changes.now))
+            (L.lines_of lines.old) (L.lines_of lines.new)) }
         ensures err { OnErr result (SameFrame self.old self.new) }
+        ensures kept { OnErr result (IsTrue L.KEEPS → BeginsRows self.old.width
+            (rows_scrolled_off (measure W.width_of self.old.widths) (screen_of self.old)
+            (kept_of self.old) (map change_value changes.now))
+            (L.lines_of lines.old) (L.lines_of lines.new)) }
+        ensures spare { L.spare_of lines.new ≤ L.spare_of lines.old }
         ensures empty { OnErr result (0 < length changes.now) }
         ensures none { length changes.now ≡ 0 → self.new ≡ self.old }
     {
         for change in changes {
-            self.apply(change)?;
+            self.apply(change, lines)?;
+        }
+        Ok(())
+    }
+
+    fn apply_lent<L: LineSink>(
+        &mut self,
+        change: &LentChange<'_>,
+        lines: &mut L,
+    ) -> Result<(), AllocError>
+        requires { region_fits self.old.height (lent_value change.now) ≡ true }
+        ensures ok { OnOk result (let f = measure W.width_of self.old.widths in
+            let s = screen_of self.old in
+            Becomes self.old (step f s (lent_value change.now))
+            (step_kept f s (kept_of self.old) (lent_value change.now))
+            (touches f s (lent_value change.now)) self.new) }
+        ensures scrolls { OnOk result (IsTrue L.KEEPS → ScrollsOff self.old.width
+            (left_step (measure W.width_of self.old.widths) (screen_of self.old)
+            (kept_of self.old) (lent_value change.now))
+            (L.lines_of lines.old) (L.lines_of lines.new)) }
+        ensures err { OnErr result (SameFrame self.old self.new) }
+        ensures kept { OnErr result (IsTrue L.KEEPS → BeginsRows self.old.width
+            (left_step (measure W.width_of self.old.widths) (screen_of self.old)
+            (kept_of self.old) (lent_value change.now))
+            (L.lines_of lines.old) (L.lines_of lines.new)) }
+        ensures spare { L.spare_of lines.new ≤ L.spare_of lines.old }
+    {
+        match change {
+            LentChange::Text(text) => self.print_text(text, lines),
+            LentChange::Title(title) => self.set_title(title),
+            LentChange::Owned(change) => self.apply(change, lines),
+        }
+    }
+
+    pub(super) fn apply_all_lent<L: LineSink>(
+        &mut self,
+        changes: &[LentChange<'_>],
+        lines: &mut L,
+    ) -> Result<(), AllocError>
+        requires { regions_fit self.old.height (map lent_value changes.now) ≡ true }
+        ensures ok { OnOk result (let f = measure W.width_of self.old.widths in
+            let s = screen_of self.old in
+            Becomes self.old (replay f s (map lent_value changes.now))
+            (replay_kept f s (kept_of self.old) (map lent_value changes.now))
+            (touched f s (map lent_value changes.now)) self.new) }
+        ensures scrolls { OnOk result (IsTrue L.KEEPS → ScrollsOff self.old.width
+            (rows_scrolled_off (measure W.width_of self.old.widths) (screen_of self.old)
+            (kept_of self.old) (map lent_value changes.now))
+            (L.lines_of lines.old) (L.lines_of lines.new)) }
+        ensures err { OnErr result (SameFrame self.old self.new) }
+        ensures kept { OnErr result (IsTrue L.KEEPS → BeginsRows self.old.width
+            (rows_scrolled_off (measure W.width_of self.old.widths) (screen_of self.old)
+            (kept_of self.old) (map lent_value changes.now))
+            (L.lines_of lines.old) (L.lines_of lines.new)) }
+        ensures spare { L.spare_of lines.new ≤ L.spare_of lines.old }
+        ensures empty { OnErr result (0 < length changes.now) }
+        ensures none { length changes.now ≡ 0 → self.new ≡ self.old }
+    {
+        for change in changes {
+            self.apply_lent(change, lines)?;
         }
         Ok(())
     }

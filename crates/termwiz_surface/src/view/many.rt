@@ -2,7 +2,7 @@
 ghost use Rattle.std.specs.Prelude.{◌≡◌, IfOk, List, [], replicate};
 ghost use Rattle.termwiz_surface.specs.{All, AnswersTo, DeliversTo, Held, IsManyInRange};
 ghost use Rattle.termwiz_surface.specs.{IsManySchedule, IsSurfaceSize, Remembers, ResizesAs};
-ghost use Rattle.termwiz_surface.specs.{IsGivenBy, Serves, blank_viewer, knows, measure};
+ghost use Rattle.termwiz_surface.specs.{IsGivenBy, ServesEvent, blank_viewer, knows, measure};
 ghost use Rattle.termwiz_surface.specs.{false, own_repaint, screens};
 ghost use Rattle.termwiz_surface.specs.ManySchedule.{ManyState, RunsMany};
 ghost use Rattle.termwiz_surface.specs.ManySteps.{many_state};
@@ -118,7 +118,7 @@ fn serve<W: Widths>(
     requires { IsManyInRange event }
     ensures { IfOk result (λ outcome. (held : List Held) →
         Remembers (measure W.width_of) surface.old viewers.old.items answers.old.items held →
-        Serves (measure W.width_of) surface.old viewers.old.items held event outcome
+        ServesEvent (measure W.width_of) surface.old viewers.old.items held event outcome
         surface.new viewers.new.items answers.new.items) }
 {
     match event {

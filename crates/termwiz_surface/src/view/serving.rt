@@ -1,7 +1,7 @@
 //! What an event does to a surface and its viewer, and its outcome.
 ghost use Rattle.std.specs.Prelude.{◌≡◌, IfOk, OnOk, map};
 ghost use Rattle.termwiz_surface.specs.{Acts, Allows, Follows, IfSome, IsInRange, IsNone};
-ghost use Rattle.termwiz_surface.specs.{Preserves, Reports, Views, change_value};
+ghost use Rattle.termwiz_surface.specs.{Preserves, ReportsOutcome, Views, change_value};
 ghost use Rattle.termwiz_surface.specs.{SurfaceValue, cow_slice_items, measure, with_empty_log};
 
 use super::{Event, Outcome, Viewer};
@@ -82,7 +82,7 @@ pub(super) fn act<W: Widths>(
 
 // The result of adding a list of changes, as an outcome.
 fn answered(answer: Result<SequenceNo, SurfaceError>) -> Outcome
-    ensures { Reports (λ reported. reported ≡ answer) result }
+    ensures { ReportsOutcome (λ reported. reported ≡ answer) result }
 {
     match answer {
         Ok(number) => Outcome::Answered(number),

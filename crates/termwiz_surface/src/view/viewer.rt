@@ -9,7 +9,8 @@ ghost use Rattle.termwiz_surface.specs.{Fits, Follows, MayTake, Resizes, flushed
 ghost use Rattle.termwiz_surface.specs.{Makes, SurfaceValue, Takes, length, nat_lt};
 ghost use Rattle.termwiz_surface.specs.{screens, true};
 
-use crate::surface::{Answer, Surface, SurfaceError};
+use crate::scrollback::NoScrollback;
+use crate::surface::{Answer, ChangeList, Surface, SurfaceError};
 use std::alloc::{AllocError, Global};
 use std::borrow::CowSlice;
 use std::marker::Model;
@@ -241,7 +242,8 @@ impl<W: Widths> Viewer<W> {
         ensures preserves { Preserves (measure W.width_of) self.old.surface self.new.surface }
     {
         self.last = SEQ_ZERO;
-        if self.surface.add_lent_changes(answer.changes()).is_err() {
+        let list = ChangeList::Lent(answer.changes());
+        if self.surface.add(list, &mut NoScrollback).is_err() {
             return Err(AllocError);
         }
         self.last = answer.number();

@@ -8,7 +8,7 @@ ghost use Rattle.termwiz_screen.specs.Step.{regions_fit};
 ghost use Rattle.termwiz_wire.specs.Answers.{Decodes, Halts, answer_at, answer_in, sent_of};
 ghost use Rattle.termwiz_wire.specs.Screens.{FitsLimits};
 ghost use Rattle.termwiz_wire.specs.Sent.{IsSent, answer};
-ghost use Rattle.termwiz_wire.specs.Within.{IsBorne, IsWithin};
+ghost use Rattle.termwiz_wire.specs.Within.{IsBorne, IsWithinLimits};
 ghost use Rattle.termwiz_wire.specs.declared.sent.SentAnswer.{SentAnswer};
 
 use super::changes::each_of;
@@ -38,7 +38,7 @@ pub fn decode_answer<W: Widths>(
     // An encoded answer is decoded again, whatever follows it, if the limits allow it.
     ensures again { (s : SentAnswer) (rest : List ℕ) →
         IsSent (measure W.width_of widths.now) s →
-        IsWithin (measure W.width_of widths.now) limits s →
+        IsWithinLimits (measure W.width_of widths.now) limits s →
         bytes.now ≡ answer (measure W.width_of widths.now) s ++ rest →
         Decodes (λ x. (x.0, drop x.1 bytes.now)) result (ok s rest) }
     // The bytes that are taken are the encoding of what is decoded.

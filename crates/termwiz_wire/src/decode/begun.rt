@@ -12,7 +12,7 @@ ghost use Rattle.termwiz_wire.specs.Answers.{sent_of};
 ghost use Rattle.termwiz_wire.specs.CutLinks.{IsLinkPart, part_of};
 ghost use Rattle.termwiz_wire.specs.Decoding.{change_at};
 ghost use Rattle.termwiz_wire.specs.Lent.{lent_answer};
-ghost use Rattle.termwiz_wire.specs.Resuming.{AreWithin, BeginsChange, EndsIn, GoesOn};
+ghost use Rattle.termwiz_wire.specs.Resuming.{AreWithin, BeginsChange, EndsIn, DecodesOn};
 ghost use Rattle.termwiz_wire.specs.Resuming.{IsChangePart, IsCut, IsWith, LeadsOn, Resumes};
 ghost use Rattle.termwiz_wire.specs.Resuming.{WithNext, WithWhole, begun_with, change_part};
 ghost use Rattle.termwiz_wire.specs.Resuming.{cut_after};
@@ -438,7 +438,7 @@ fn go_on<'a, W: Widths>(
     requires spent { spent.old ≡ spent_on (Some head)
         (map change_value begun.now ++ map lent_value changes.old.items) }
     requires few { spent.old ≤ most_work head.width head.height }
-    ensures goes { GoesOn (measure W.width_of widths.now) reader.old.room head
+    ensures goes { DecodesOn (measure W.width_of widths.now) reader.old.room head
         (map change_value begun.now ++ map lent_value changes.old.items) reader.old.bytes.now result
         (map change_value begun.now ++ map lent_value changes.new.items)
         (allowed reader.new.room reader.new.bytes.now) reader.new.bytes.now }

@@ -1,5 +1,5 @@
 use Rattle.std.proofs.Common.{ap, ◌∙◌}
-use Rattle.sessions.specs.Sending.{first_source, stream_of}
+use Rattle.sessions.specs.Sending.{first_source, stream_sent}
 use Rattle.sessions.proofs.Chains.{shows_chain}
 use Rattle.sessions.proofs.Sent.{stream-encoded}
 use Rattle.sessions.proofs.pipe.piped.Goals as goal
@@ -9,7 +9,7 @@ returns c =
     let (frames, sent, chain) = c.in_ok-outcomes.ensures in
     let outcomes = c.in_ok-outcomes.outcomes.items in
     let whole = stream-encoded (first_source c.args.source c.args.size.0 c.args.size.1) 0 c.args.events.items outcomes frames sent in
-    let bytes = c.as_slice-input.ensures.value ∙ c.in_ok-bytes.ensures ∙ ap stream_of c.as_slice.ensures.value ∙ whole in
+    let bytes = c.as_slice-input.ensures.value ∙ c.in_ok-bytes.ensures ∙ ap stream_sent c.as_slice.ensures.value ∙ whole in
     record {
       outcomes = outcomes;
       frames = frames;

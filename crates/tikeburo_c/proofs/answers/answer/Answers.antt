@@ -1,4 +1,4 @@
-use Rattle.std.proofs.Common.{◌≡◌, ◌<◌, ◌≤◌, ◌++◌, List, ℕ, drop, length, ap, arith, inr, refl, rules, subst, sym, ◌∙◌}
+use Rattle.std.proofs.Common.{◌≡◌, ◌<◌, ◌≤◌, ◌++◌, List, ℕ, drop, length, ap, inr, refl, rules, subst, ◌∙◌}
 use Rattle.termwiz_share.specs.Source.{IsWritten, response_bytes}
 use Rattle.tikeburo_c.specs.Widths.{columns_by}
 use Rattle.tikeburo_c.proofs.answers.answer.Goals as goal

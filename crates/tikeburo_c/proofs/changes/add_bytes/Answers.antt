@@ -7,7 +7,7 @@ use Rattle.termwiz_cell.specs.declared.change.Change.{Change}
 use Rattle.termwiz_share.specs.Source.{SourceValue}
 use Rattle.termwiz_surface.specs.Surface.{SurfaceValue}
 use Rattle.tikeburo_c.proofs.Decoded.{failed_by}
-use Rattle.tikeburo_c.specs.Changes.{AddsBytes, AddsList, IsOnlyList}
+use Rattle.tikeburo_c.specs.Changes.{AddsBytes, AddsChanges, IsOnlyList}
 use Rattle.tikeburo_c.specs.Outcomes.{Outcome}
 use Rattle.tikeburo_c.specs.Widths.{columns_by}
 use Rattle.tikeburo_c.specs.declared.failure.Failure.{Failure}
@@ -20,9 +20,9 @@ none_added bytes s f only = elim only [
   | inr wrong ↦ record { adds = λ cs are e. absurd (wrong.1 cs are e); others = inl (ap (λ (g : Failure). Err g) wrong.0, refl) }
 ]
 
-list_added : (bytes : List ℕ) (s : SourceValue ChosenWidths) (cs : Vec Change Global) (outcome : Outcome) (t : SourceValue ChosenWidths) → IsOnlyList (columns_by s.surface.widths) bytes (Ok cs) → AddsList (map change_value cs.items) s outcome t → AddsBytes bytes s outcome t
+list_added : (bytes : List ℕ) (s : SourceValue ChosenWidths) (cs : Vec Change Global) (outcome : Outcome) (t : SourceValue ChosenWidths) → IsOnlyList (columns_by s.surface.widths) bytes (Ok cs) → AddsChanges (map change_value cs.items) s outcome t → AddsBytes bytes s outcome t
 list_added bytes s cs outcome t only added = record {
-  adds = λ ds are e. inr (subst (λ (es : List ChangeValue). AddsList es s outcome t) (only.1 ds are e) added);
+  adds = λ ds are e. inr (subst (λ (es : List ChangeValue). AddsChanges es s outcome t) (only.1 ds are e) added);
   others = inr (inr (map change_value cs.items, only.0, added));
 }
 
@@ -42,4 +42,4 @@ returns c =
     let changes = c.in_ok-changes.changes in
     let same : c.widths.result ≡ source.surface.widths = c.widths.ensures ∙ ap (λ (s : SurfaceValue ChosenWidths). s.widths) c.surface.ensures.value in
     let only = subst (λ (w : ChosenWidths). IsOnlyList (columns_by w) bytes (Ok changes)) same c.in_ok-changes.ensures in
-    list_added bytes source changes c.add_list.result c.add_list.new.surface only c.add_list.ensures
+    list_added bytes source changes c.add_list.result c.add_list.new.surface only c.add_list.ensures.adds

@@ -1,5 +1,4 @@
 use Rattle.std.proofs.Common.{◌≡◌, true, inl, inr, map, rules, subst}
-use Rattle.std.specs.Prelude.{Bool}
 use Rattle.termwiz_cell.specs.ChangeValue.{change_value}
 use Rattle.termwiz_screen.specs.Printable.{ArePrintable}
 use Rattle.termwiz_surface.specs.Measuring.{AreMeasured}
@@ -17,4 +16,4 @@ returns c =
     let measured = subst (λ (s : SurfaceValue ChosenWidths). AreMeasured (columns_by s.widths) cells) c.surface.ensures.value (c.measures.ensures.measured.0 is) in
     let printable = subst (λ (s : SurfaceValue ChosenWidths). ArePrintable (columns_by s.widths) cells) c.surface.ensures.value (c.measures.ensures.printable is) in
     let drawing = subst (λ (s : SurfaceValue ChosenWidths). IsDrawing s c.args.row cells (map change_value c.in_ok-changes.changes.items)) c.surface-2.ensures.value c.in_ok-changes.ensures in
-    inl (measured, inr (draws_line c.args.row cells c.args.surface.now c.add_list.new.surface c.add_list.result _ drawing printable c.add_list.ensures))
+    inl (measured, inr (draws_line c.args.row cells c.args.surface.now c.add_list.new.surface c.add_list.result _ drawing printable c.add_list.ensures.adds))

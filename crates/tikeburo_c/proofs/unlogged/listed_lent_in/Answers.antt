@@ -5,7 +5,7 @@ use Rattle.std.specs.Prelude.{IfErr}
 use Rattle.std.specs.declared.alloc.Global.{Global}
 use Rattle.std.specs.declared.vec.Vec.{Vec}
 use Rattle.termwiz_surface.specs.Unlogged.{lent_value}
-use Rattle.termwiz_surface.specs.declared.surface.unlogged.LentChange.{LentChange}
+use Rattle.termwiz_surface.specs.declared.surface.lists.LentChange.{LentChange}
 use Rattle.tikeburo_c.specs.Lists.{listed_in}
 use Rattle.tikeburo_c.specs.declared.failure.Failure.TheVariants.{Memory}
 use Rattle.tikeburo_c.proofs.Decoded.{failed_by}

@@ -2,7 +2,7 @@ use Rattle.std.proofs.Common.{◌≡◌, List, get_or, map, sym, ap, ◌∙◌, 
 use Rattle.std.specs.Prelude.{Ok}
 use Rattle.termwiz_surface.specs.{ChangeValue, DoubleWidthLine, FullScreen, Kept, SingleWidthLine, change_value, kept_of, measure, replay, replay_kept, screen_of}
 use Rattle.uses.specs.Following.{FollowsOnce}
-use Rattle.uses.specs.Making.{AddsList}
+use Rattle.uses.specs.Making.{MakesOrFails}
 use Rattle.uses.proofs.HeadingRow.{row_is_wide}
 use Rattle.uses.proofs.remote.show_heading.Goals as goal
 
@@ -36,6 +36,6 @@ returns-clause-follows g c = c.follow.ensures.follows (c.in_ok-add_changes.ensur
 pub returns-clause-either : goal.returns-clause-either
 returns-clause-either g c =
     let changes : List ChangeValue = map change_value c.in_ok-changes.changes.items in
-    let added : AddsList (measure g.W.Widths.width_of c.args.session.now.widths) c.args.session.now changes (Ok tt) c.add_changes.new.self = search rules in
+    let added : MakesOrFails (measure g.W.Widths.width_of c.args.session.now.widths) c.args.session.now changes (Ok tt) c.add_changes.new.self = search rules in
     let followed : FollowsOnce (measure g.W.Widths.width_of) c.add_changes.new.self c.args.remote.now (Ok tt) c.follow.new.self = search rules in
-    (subst (λ (cs : List ChangeValue). AddsList (measure g.W.Widths.width_of c.args.session.now.widths) c.args.session.now cs (Ok tt) c.add_changes.new.self) c.in_ok-changes.ensures added, followed)
+    (subst (λ (cs : List ChangeValue). MakesOrFails (measure g.W.Widths.width_of c.args.session.now.widths) c.args.session.now cs (Ok tt) c.add_changes.new.self) c.in_ok-changes.ensures added, followed)

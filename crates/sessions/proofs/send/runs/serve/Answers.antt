@@ -2,7 +2,7 @@ use Rattle.std.proofs.Common.{◌≡◌, ◌∙◌, ℕ, ap, refl, sym, subst}
 use Rattle.termwiz_screen.specs.Log.{next_number}
 use Rattle.termwiz_surface.specs.Surface.{SurfaceValue}
 use Rattle.termwiz_surface.specs.declared.view.Outcome.TheVariants.{Done}
-use Rattle.sessions.specs.SendSteps.{Steps}
+use Rattle.sessions.specs.SendSteps.{SendsOn}
 use Rattle.sessions.specs.Sending.{Happens, IsAnswered, Sender, own_ask}
 use Rattle.sessions.specs.declared.send.runs.SendEvent.TheVariants.{Flush, Send}
 use Rattle.sessions.specs.declared.send.runs.SendOutcome.TheVariants.{Sent}
@@ -43,7 +43,7 @@ returns-in_ok-bytes-in-Send-clause-steps c = λ v named.
     let n : ℕ = c.args.last.now in
     let is : IsAnswered s (own_ask s n) bytes t = subst (λ (k : ℕ). IsAnswered s (record { source = k; number = n }) bytes t) c.number.ensures.value c.in_ok-bytes-in-Send.ensures.answered in
     let last : c.current_seqno.result ≡ next_number t.surface.log = c.current_seqno.ensures.value ∙ ap (λ (x : SurfaceValue _). next_number x.log) c.surface.ensures.value in
-    rw c.in-Send.is (subst (λ (k : ℕ). Steps s n v Send (Sent bytes) t k) (sym last) (given_steps s t n v bytes is c.respond.ensures.serves named))
+    rw c.in-Send.is (subst (λ (k : ℕ). SendsOn s n v Send (Sent bytes) t k) (sym last) (given_steps s t n v bytes is c.respond.ensures.serves named))
 
 pub returns-in_ok-bytes-in-Send-clause-does : goal.returns-in_ok-bytes-in-Send-clause-does
 returns-in_ok-bytes-in-Send-clause-does c =

@@ -1,13 +1,18 @@
-use Rattle.std.proofs.Common.{◌≡◌, ℕ, ◌+◌, ◌≤◌, true, map, length, length-append, sym, ap, subst, ◌∙◌, arith}
+use Rattle.std.proofs.Common.{◌≡◌, ℕ, [], ◌+◌, ◌≤◌, true, map, length, length-append, sym, ap, subst, ◌∙◌, arith}
+use Rattle.std.specs.Prelude.{IsTrue}
 use Rattle.std.proofs.lemmas.List.{length-map}
 use Rattle.termwiz_cell.specs.ChangeValue.{change_value}
+use Rattle.termwiz_cell.specs.Measure.{measure}
 use Rattle.termwiz_screen.specs.Log.{next_number}
 use Rattle.termwiz_screen.specs.Step.{regions_fit}
 use Rattle.termwiz_surface.specs.Adding.{with_log}
 use Rattle.termwiz_surface.specs.RowNumbers.{NumbersRows}
-use Rattle.termwiz_surface.specs.Surface.{SurfaceValue}
+use Rattle.termwiz_surface.specs.ScrolledOff.{BeginsRows, ScrollsOff, rows_scrolled_off}
+use Rattle.termwiz_surface.specs.Surface.{SurfaceValue, kept_of, screen_of}
 use Rattle.termwiz_surface.proofs.Drawn.{any_log}
+use Rattle.termwiz_line.proofs.Fills.{on_err}
 use Rattle.termwiz_surface.proofs.RowNumbers.{numbers-none}
+use Rattle.termwiz_surface.proofs.ScrolledOff.{begins-leaves, begins-none, on-err}
 use Rattle.termwiz_screen.proofs.LogRegions.{regions-append}
 use Rattle.termwiz_surface.proofs.surface.Surface.make_lent.Goals as goal
 
@@ -39,3 +44,19 @@ returns-clause-none g c = λ none.
     let grows : next_number old.log ≤ next_number c.append_clones.new.self =
     omega (arith, ap next_number c.in_ok-append_clones.ensures.ok, length-append c.self-2.inside.log.changes (map change_value c.args.changes.now), ap (λ (s : SurfaceValue _). next_number s.log) (c.self-2.view_is ∙ same), ap next_number c.in_ok-reserve.ensures.unchanged, ap (λ (s : SurfaceValue _). next_number s.log) c.self.view_is) in
     subst (λ (m : SurfaceValue _). NumbersRows old (with_log m c.append_clones.new.self)) (sym c.self-2.view_is) (numbers-none old new mark c.reserve.new.self c.append_clones.new.self same grows)
+
+pub returns-in_err-reserve-clause-kept : goal.returns-in_err-reserve-clause-kept
+returns-in_err-reserve-clause-kept g c = on-err _ _ (λ on. begins-none c.args.self.now.width _ (g.L.LineSink.lines_of c.args.lines.now))
+
+pub returns-in_err-apply_all-clause-kept : goal.returns-in_err-apply_all-clause-kept
+returns-in_err-apply_all-clause-kept g c =
+    on_err _ (subst (λ (s : SurfaceValue _). IsTrue g.L.LineSink.KEEPS → BeginsRows s.width (rows_scrolled_off (measure g.W.Widths.width_of s.widths) (screen_of s) (kept_of s) (map change_value c.args.changes.now)) (g.L.LineSink.lines_of c.args.lines.now) (g.L.LineSink.lines_of c.apply_all.new.lines)) c.self.view_is c.in_err-apply_all.ensures.kept)
+
+pub returns-in_err-append_clones-clause-kept : goal.returns-in_err-append_clones-clause-kept
+returns-in_err-append_clones-clause-kept g c =
+    let scrolls = subst (λ (s : SurfaceValue _). IsTrue g.L.LineSink.KEEPS → ScrollsOff s.width (rows_scrolled_off (measure g.W.Widths.width_of s.widths) (screen_of s) (kept_of s) (map change_value c.args.changes.now)) (g.L.LineSink.lines_of c.args.lines.now) (g.L.LineSink.lines_of c.apply_all.new.lines)) c.self.view_is c.in_ok-apply_all.ensures.scrolls in
+    on-err _ _ (λ on. begins-leaves c.args.self.now.width _ [] (g.L.LineSink.lines_of c.args.lines.now) (g.L.LineSink.lines_of c.apply_all.new.lines) (scrolls on))
+
+pub returns-clause-scrolls : goal.returns-clause-scrolls
+returns-clause-scrolls g c =
+    subst (λ (s : SurfaceValue _). IsTrue g.L.LineSink.KEEPS → ScrollsOff s.width (rows_scrolled_off (measure g.W.Widths.width_of s.widths) (screen_of s) (kept_of s) (map change_value c.args.changes.now)) (g.L.LineSink.lines_of c.args.lines.now) (g.L.LineSink.lines_of c.apply_all.new.lines)) c.self.view_is c.in_ok-apply_all.ensures.scrolls

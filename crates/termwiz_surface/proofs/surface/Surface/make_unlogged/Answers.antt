@@ -1,4 +1,5 @@
 use Rattle.std.proofs.Common.{◌≡◌, ℕ, List, ◌+◌, ◌≤◌, map, length, refl, sym, ap, subst, ◌∙◌, arith}
+use Rattle.std.specs.Prelude.{IsTrue}
 use Rattle.std.proofs.lemmas.List.{length-map}
 use Rattle.termwiz_cell.specs.Measure.{measure}
 use Rattle.termwiz_screen.specs.Log.{next_number, passed}
@@ -10,6 +11,8 @@ use Rattle.termwiz_surface.specs.Touching.{touched}
 use Rattle.termwiz_surface.specs.Unlogged.{MakesUnlogged, lent_value}
 use Rattle.termwiz_surface.proofs.Drawn.{any_log}
 use Rattle.termwiz_surface.specs.RowNumbers.{NumbersRows}
+use Rattle.termwiz_surface.specs.ScrolledOff.{BeginsRows, ScrollsOff, rows_scrolled_off}
+use Rattle.termwiz_line.proofs.Fills.{on_err}
 use Rattle.termwiz_surface.proofs.RowNumbers.{numbers-none}
 use Rattle.termwiz_surface.proofs.Unlogged.{makes-unlogged}
 use Rattle.termwiz_surface.proofs.surface.Surface.make_unlogged.Goals as goal
@@ -50,3 +53,11 @@ returns-clause-none g c = λ none.
     let grows : next_number old.log ≤ next_number c.pass.new.self =
     omega (arith, ap next_number c.pass.ensures, ap (λ (s : SurfaceValue _). next_number s.log) (c.self-2.view_is ∙ same)) in
     subst (λ (m : SurfaceValue _). NumbersRows old (with_log m c.pass.new.self)) (sym c.self-2.view_is) (numbers-none old new mark old.log c.pass.new.self same grows)
+
+pub returns-clause-scrolls : goal.returns-clause-scrolls
+returns-clause-scrolls g c =
+    subst (λ (s : SurfaceValue _). IsTrue g.L.LineSink.KEEPS → ScrollsOff s.width (rows_scrolled_off (measure g.W.Widths.width_of s.widths) (screen_of s) (kept_of s) (map lent_value c.args.changes.now)) (g.L.LineSink.lines_of c.args.lines.now) (g.L.LineSink.lines_of c.apply_all_lent.new.lines)) c.self.view_is c.in_ok-apply_all_lent.ensures.scrolls
+
+pub returns-in_err-apply_all_lent-clause-kept : goal.returns-in_err-apply_all_lent-clause-kept
+returns-in_err-apply_all_lent-clause-kept g c =
+    on_err _ (subst (λ (s : SurfaceValue _). IsTrue g.L.LineSink.KEEPS → BeginsRows s.width (rows_scrolled_off (measure g.W.Widths.width_of s.widths) (screen_of s) (kept_of s) (map lent_value c.args.changes.now)) (g.L.LineSink.lines_of c.args.lines.now) (g.L.LineSink.lines_of c.apply_all_lent.new.lines)) c.self.view_is c.in_err-apply_all_lent.ensures.kept)

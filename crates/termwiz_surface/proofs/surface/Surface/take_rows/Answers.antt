@@ -15,7 +15,7 @@ loop-row-preserved g c =
     let inside : c.loop-row.row < c.loop-row.self.height = omega (arith, before.taken.height) in
     record {
       taken = taken-more f c.args.self.now c.loop-row.self c.take_row.new.self c.loop-row.row row.sound inside before.taken row.ok;
-      lines = taken-lines f c.args.self.now c.loop-row.self c.take_row.new.self c.loop-row.row row.sound inside before.taken c.args.scrollback.now.lines.items c.loop-row.scrollback.lines.items c.take_row.new.scrollback.lines.items before.lines row.moves;
+      lines = taken-lines f c.args.self.now c.loop-row.self c.take_row.new.self c.loop-row.row row.sound inside before.taken (g.L.LineSink.lines_of c.args.lines.now) (g.L.LineSink.lines_of c.loop-row.lines) (g.L.LineSink.lines_of c.take_row.new.lines) before.lines row.moves;
       spare = omega (arith, before.spare, c.take_row.ensures.spare);
     }
 
@@ -23,6 +23,6 @@ pub returns-in_err-take_row-clause-kept : goal.returns-in_err-take_row-clause-ke
 returns-in_err-take_row-clause-kept g c =
     let s = screen_of c.args.self.now in
     let k = kept_of c.args.self.now in
-    let u : List LineValue = c.args.scrollback.now.lines.items in
+    let u : List LineValue = (g.L.LineSink.lines_of c.args.lines.now) in
     on_err _ (subst (BeginsRows c.args.self.now.width (first_rows s k c.args.count) u) (sym c.in_err-take_row.ensures.kept)
-    (begins-first c.args.self.now.width s k c.loop-row.row c.args.count u c.loop-row.scrollback.lines.items (omega arith) c.loop-row.invariant.lines))
+    (begins-first c.args.self.now.width s k c.loop-row.row c.args.count u (g.L.LineSink.lines_of c.loop-row.lines) (omega arith) c.loop-row.invariant.lines))

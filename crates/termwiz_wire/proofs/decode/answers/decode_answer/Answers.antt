@@ -6,7 +6,7 @@ use Rattle.termwiz_wire.specs.declared.fault.Fault.{Fault}
 use Rattle.termwiz_wire.proofs.Within.{Took, took, stopped_at, within_again, lens_of}
 use Rattle.termwiz_wire.specs.Answers.{Decodes, Halt, answer_at, answer_in}
 use Rattle.termwiz_wire.specs.Sent.{IsSent, answer}
-use Rattle.termwiz_wire.specs.Within.{IsWithin}
+use Rattle.termwiz_wire.specs.Within.{IsWithinLimits}
 use Rattle.termwiz_wire.specs.declared.fault.Limits.{Limits}
 use Rattle.termwiz_wire.specs.declared.sent.SentAnswer.{SentAnswer}
 use Rattle.termwiz_wire.proofs.AnswersAgain.{answer_again}
@@ -23,7 +23,7 @@ taken : (columns : List ℕ → ℕ) (limits : Limits) (bytes hand rest : List �
 taken columns limits bytes hand rest room n s same left fits e is = took (reading columns limits) limits.bytes (answer columns s) bytes hand rest room n s same left (answer_takes columns room limits hand (s, rest) fits e).taken.parts e is
 
 -- an answer within the limits
-again : (columns : List ℕ → ℕ) (limits : Limits) (bytes rest : List ℕ) (s : SentAnswer) → IsSent columns s → IsWithin columns limits s → bytes ≡ answer columns s ++ rest → answer_at columns limits bytes ≡ Ok (s, rest)
+again : (columns : List ℕ → ℕ) (limits : Limits) (bytes rest : List ℕ) (s : SentAnswer) → IsSent columns s → IsWithinLimits columns limits s → bytes ≡ answer columns s ++ rest → answer_at columns limits bytes ≡ Ok (s, rest)
 unfolding answer_at
 again columns limits bytes rest s is within e = within_again (reading columns limits) limits.bytes bytes (answer columns s) rest s within.bytes e (λ room more. answer_again columns room limits s more is within.screen within.borne)
 

@@ -6,7 +6,7 @@ use Rattle.termwiz_cell.specs.ChangeValue.{ChangeValue, change_value}
 use Rattle.termwiz_cell.specs.Measure.{measure}
 use Rattle.termwiz_cell.specs.declared.change.Change.{Change}
 use Rattle.termwiz_surface.specs.Unlogged.{lent_value}
-use Rattle.termwiz_surface.specs.declared.surface.unlogged.LentChange.{LentChange}
+use Rattle.termwiz_surface.specs.declared.surface.lists.LentChange.{LentChange}
 use Rattle.termwiz_wire.specs.Answers.{next_at}
 use Rattle.termwiz_wire.specs.Work.{cost, spent_on}
 use Rattle.termwiz_wire.proofs.Bounds.{spent_more}

@@ -5,7 +5,7 @@ use Rattle.termwiz_surface.specs.{ChangeValue, change_value, knows, next_number,
 use Rattle.termwiz_surface.specs.declared.surface.SurfaceError.{SurfaceError}
 use Rattle.termwiz_surface.specs.declared.surface.SurfaceError.TheVariants.{ScrollRegion}
 use Rattle.uses.specs.Following.{answer_for}
-use Rattle.uses.specs.Making.{AddsAll, AddsList}
+use Rattle.uses.specs.Making.{MakesOrRefuses, MakesOrFails}
 use Rattle.uses.proofs.Following.{answer_is, never_scrolls}
 use Rattle.uses.proofs.Making.{adds_made, adds_refused}
 use Rattle.uses.proofs.Returned.{returned}
@@ -73,8 +73,8 @@ returns-clause-adds g c =
     let new = c.add_changes.new.self in
     let list : map change_value c.in_ok-copied.field-0.items ≡ answer_for s c.self.inside.last =
     c.in_ok-copied.ensures ∙ answer_is s c.self.inside.last (knows s c.self.inside.last) (stream_of c.in_ok-number.changes) refl (λ is. (c.in_ok-number.ensures.due is).same) c.in_ok-number.ensures.entries in
-    inl (subst (λ (v : ViewerValue _). AddsAll (f v.surface.widths) v.surface (answer_for s v.last) (Ok tt) new) c.self.view_is
-    (subst (λ (cs : List ChangeValue). AddsAll (f shown.widths) shown cs (Ok tt) new) list
+    inl (subst (λ (v : ViewerValue _). MakesOrRefuses (f v.surface.widths) v.surface (answer_for s v.last) (Ok tt) new) c.self.view_is
+    (subst (λ (cs : List ChangeValue). MakesOrRefuses (f shown.widths) shown cs (Ok tt) new) list
     (adds_made (f shown.widths) shown new (map change_value c.in_ok-copied.field-0.items) _ _ c.in_ok-add_changes.ensures.adds)))
 
 pub returns-in_err-add_changes-clause-adds : goal.returns-in_err-add_changes-clause-adds
@@ -88,9 +88,9 @@ returns-in_err-add_changes-clause-adds g c =
     let n = next_number shown.log - 1 + vec_len c.in_ok-copied.field-0 in
     let list : map change_value c.in_ok-copied.field-0.items ≡ answer_for s c.self.inside.last =
     c.in_ok-copied.ensures ∙ answer_is s c.self.inside.last (knows s c.self.inside.last) (stream_of c.in_ok-number.changes) refl (λ is. (c.in_ok-number.ensures.due is).same) c.in_ok-number.ensures.entries in
-    returned (λ (r : Result _ _). AddsList (f v.surface.widths) v.surface (answer_for s v.last) r new) e c.from_residual-in_err-add_changes.result c.from_residual-in_err-add_changes.ensures.1
-    (inl (subst (λ (v : ViewerValue _). AddsAll (f v.surface.widths) v.surface (answer_for s v.last) (Err e) new) c.self.view_is
-    (subst (λ (cs : List ChangeValue). AddsAll (f shown.widths) shown cs (Err e) new) list
+    returned (λ (r : Result _ _). MakesOrFails (f v.surface.widths) v.surface (answer_for s v.last) r new) e c.from_residual-in_err-add_changes.result c.from_residual-in_err-add_changes.ensures.1
+    (inl (subst (λ (v : ViewerValue _). MakesOrRefuses (f v.surface.widths) v.surface (answer_for s v.last) (Err e) new) c.self.view_is
+    (subst (λ (cs : List ChangeValue). MakesOrRefuses (f shown.widths) shown cs (Err e) new) list
     (adds_refused (f shown.widths) shown new (map change_value c.in_ok-copied.field-0.items) n e c.in_err-add_changes.ensures.adds))))
 
 pub returns-in_err-add_changes-clause-no_scroll : goal.returns-in_err-add_changes-clause-no_scroll

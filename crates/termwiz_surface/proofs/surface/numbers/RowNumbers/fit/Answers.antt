@@ -1,4 +1,4 @@
-use Rattle.std.proofs.Common.{◌<◌, refl, ◌∙◌, arith}
+use Rattle.std.proofs.Common.{◌<◌, refl, arith}
 use Rattle.std.proofs.lemmas.List.{get_or-take}
 use Rattle.termwiz_surface.proofs.RowNumbers.{comes-in}
 use Rattle.termwiz_surface.proofs.surface.numbers.RowNumbers.fit.Goals as goal

@@ -1,4 +1,4 @@
-use Rattle.std.proofs.Common.{◌∙◌, arith}
+use Rattle.std.proofs.Common.{arith}
 use Rattle.termwiz_surface.specs.Surface.{numbers_over}
 use Rattle.termwiz_surface.proofs.RowNumbers.{renewed}
 use Rattle.termwiz_surface.proofs.surface.numbers.RowNumbers.renew.Goals as goal

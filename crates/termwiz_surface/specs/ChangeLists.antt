@@ -1,0 +1,47 @@
+-- Lists of changes that are added to a surface, logged or not.
+use Rattle.std.specs.Prelude.{ℕ, Bool, true, false, List, [], ◌∷◌, map, Result}
+use Rattle.termwiz_cell.specs.ChangeValue.{ChangeValue, change_value}
+use Rattle.termwiz_surface.specs.Adding.{Adds, Makes}
+use Rattle.termwiz_surface.specs.Surface.{SurfaceValue}
+use Rattle.termwiz_surface.specs.Unlogged.{AddsUnlogged, MakesUnlogged, lent_value}
+use Rattle.termwiz_surface.specs.declared.surface.SurfaceError.{SurfaceError}
+use Rattle.termwiz_surface.specs.declared.surface.lists.ChangeList.{ChangeList}
+use Rattle.termwiz_surface.specs.declared.surface.lists.ChangeList.TheVariants.{One, Owned, Lent, Unlogged}
+
+-- the changes of a list
+abbrev pub change_list : ChangeList → List ChangeValue
+change_list (One change) = change_value change ∷ []
+change_list (Owned changes) = map change_value changes.items
+change_list (Lent changes) = map change_value changes.now
+change_list (Unlogged changes) = map lent_value changes.0.now
+
+-- whether a surface logs the changes of a list
+abbrev pub is_logged : ChangeList → Bool
+is_logged (One change) = true
+is_logged (Owned changes) = true
+is_logged (Lent changes) = true
+is_logged (Unlogged changes) = false
+
+module _ {W : Type 0} where
+  -- the changes of a list are made, and logged where they are to be
+  abbrev pub MakesList :
+      (List ℕ → ℕ) → SurfaceValue W → ChangeList → SurfaceValue W → Type 0
+  MakesList measure old (Unlogged changes) new =
+      MakesUnlogged measure old (map lent_value changes.0.now) new
+  MakesList measure old (One change) new = Makes measure old (change_value change ∷ []) new
+  MakesList measure old (Owned changes) new =
+      Makes measure old (map change_value changes.items) new
+  MakesList measure old (Lent changes) new = Makes measure old (map change_value changes.now) new
+
+  -- they are made, and this number returned, or they are refused
+  abbrev pub AddsList :
+      (List ℕ → ℕ) → SurfaceValue W → ChangeList → ℕ → Result ℕ SurfaceError →
+      SurfaceValue W → Type 0
+  AddsList measure old (Unlogged changes) number result new =
+      AddsUnlogged measure old (map lent_value changes.0.now) number result new
+  AddsList measure old (One change) number result new =
+      Adds measure old (change_value change ∷ []) number result new
+  AddsList measure old (Owned changes) number result new =
+      Adds measure old (map change_value changes.items) number result new
+  AddsList measure old (Lent changes) number result new =
+      Adds measure old (map change_value changes.now) number result new

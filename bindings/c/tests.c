@@ -446,6 +446,47 @@ static void test_reads(void) {
     tk_free(&surface);
 }
 
+/* Lengths are asked for with no buffer. */
+static void test_lengths(void) {
+    tk_handle surface = made(4, 2), client = made_client(), lines = TK_NONE, other = made(4, 2);
+    size_t len = 7, value_len = 7, ask_len = 0;
+    uint8_t kind = 9, ask[20];
+    tk_cell cell = {.columns = 9};
+    tk_row_counts row = {7, 7, 7};
+    tk_list_counts list = {7, 7, 7};
+    CHECK(tk_set_title(&surface, "ls", 2) == TK_DONE);
+    CHECK(tk_set_link(&surface, "uri", 3) == TK_DONE);
+    CHECK(print(&surface, "か!") == TK_DONE);
+    CHECK(tk_title(&surface, NULL, 0, &len) == TK_SHORT && len == 2);
+    CHECK(tk_title(&other, NULL, 0, &len) == TK_DONE && len == 0);
+    CHECK(tk_pen_link(&surface, NULL, 0, &len) == TK_SHORT && len == 3);
+    CHECK(tk_pen_link_param(&surface, 0, NULL, 0, &len, NULL, 0, &value_len) == TK_RANGE);
+    CHECK(tk_link_at(&surface, 0, 0, NULL, 0, &len) == TK_SHORT && len == 3);
+    CHECK(tk_link_param_at(&surface, 0, 0, 0, NULL, 0, &len, NULL, 0, &value_len) == TK_RANGE);
+    CHECK(tk_widths(&surface, &kind, NULL, 0, &len) == TK_DONE && kind == TK_WIDTHS_UNICODE);
+    CHECK(tk_changed_rows(&surface, 0, NULL, 0, &len) == TK_SHORT && len == 2);
+    CHECK(tk_screen_text(&surface, NULL, 0, &len) == TK_SHORT && len == 6 + 5);
+    CHECK(tk_row_text(&surface, 0, false, NULL, 0, &len) == TK_SHORT && len == 5);
+    CHECK(tk_cell_at(&surface, 0, 0, &cell, NULL, 0, &len) == TK_SHORT && len == 3);
+    CHECK(tk_row_cells(&surface, 0, NULL, 0, NULL, 0, NULL, 0, &row) == TK_SHORT);
+    CHECK(row.cells == 3 && row.attributes == 2 && row.text == 5);
+    CHECK(tk_shown_cells(&surface, 0, NULL, 0, NULL, 0, NULL, 0, &row) == TK_SHORT);
+    CHECK(tk_get_changes(&surface, 0, NULL, 0, NULL, 0, &list) == TK_SHORT && list.changes > 3);
+    CHECK(tk_diff_screens(&other, &surface, NULL, 0, NULL, 0, &list) == TK_SHORT);
+    CHECK(tk_diff_region(&other, 0, 0, 4, 1, &surface, 0, 0, NULL, 0, NULL, 0, &list) == TK_SHORT);
+    CHECK(tk_diff_screens(&other, &other, NULL, 0, NULL, 0, &list) == TK_NO_HANDLE);
+    CHECK(tk_client_ask(&client, NULL, 0, &len) == TK_SHORT && len > 0);
+    CHECK(tk_make_ask(0, 0, NULL, 0, &len) == TK_SHORT && len > 0);
+    CHECK(tk_make_ask(0, 0, ask, sizeof ask, &ask_len) == TK_DONE);
+    CHECK(tk_respond(&surface, ask, ask_len, NULL, 0, &len) == TK_SHORT && len > 0);
+    CHECK(tk_lines_new(&lines) == TK_DONE);
+    CHECK(tk_line_cells(&lines, 0, NULL, 0, NULL, 0, NULL, 0, &row) == TK_RANGE);
+    tk_free(&surface);
+    tk_free(&client);
+    tk_free(&lines);
+    tk_free(&other);
+}
+
 static void test_streams(void) {
     tk_handle surface = made(6, 2), client = made_client();
     CHECK(print(&surface, "hello") == TK_DONE);
@@ -769,6 +810,7 @@ int main(void) {
     test_draws();
     test_sgr();
     test_reads();
+    test_lengths();
     test_streams();
     test_carried_answers();
     test_other_surface();

@@ -16,9 +16,9 @@
  *   value.
  * - One call at a time has a handle, on any thread. No two handles share memory, so that calls with
  *   others may run meanwhile.
- * - A pointer is never NULL, also where its length is 0, unless a call says that it may be. A
- *   length is not above what lies at the pointer, buffers don't overlap, and nothing that a call
- *   reads is written meanwhile.
+ * - A pointer is never NULL, also where its length is 0, unless a call says that it may be; but a
+ *   buffer that a call writes into may be, where its room is 0. A length is not above what lies at
+ *   the pointer, buffers don't overlap, and nothing that a call reads is written meanwhile.
  * - A bool is 0 or 1.
  * - malloc, realloc and free are those of one allocator, which aligns blocks as C's own does. No
  *   call comes from a signal handler, or from the forked child of a process with threads.
@@ -509,6 +509,17 @@ typedef struct tk_list_counts {
 tk_status tk_get_changes(tk_handle *handle, size_t since, tk_change *changes, size_t change_room,
                          char *texts, size_t room, tk_list_counts *counts);
 
+/* A buffer, or some other pointer where it is NULL: its room is 0 then, and nothing is written. */
+static inline char *tk_text_buffer(char *buffer) {
+    static char none;
+    return buffer != NULL ? buffer : &none;
+}
+
+static inline tk_change *tk_change_buffer(tk_change *buffer) {
+    static tk_change none;
+    return buffer != NULL ? buffer : &none;
+}
+
 tk_status tk_diff_screens_distinct(tk_handle *handle, tk_handle *other, tk_change *changes,
                                    size_t change_room, char *texts, size_t room,
                                    tk_list_counts *counts);
@@ -526,7 +537,8 @@ static inline tk_status tk_diff_screens(tk_handle *handle, tk_handle *other, tk_
                                         tk_list_counts *counts) {
     if (handle == other)
         return TK_NO_HANDLE;
-    return tk_diff_screens_distinct(handle, other, changes, change_room, texts, room, counts);
+    return tk_diff_screens_distinct(handle, other, tk_change_buffer(changes), change_room,
+                                    tk_text_buffer(texts), room, counts);
 }
 
 tk_status tk_diff_region_distinct(tk_handle *handle, size_t column, size_t row, size_t width,
@@ -545,7 +557,8 @@ static inline tk_status tk_diff_region(tk_handle *handle, size_t column, size_t 
     if (handle == other)
         return TK_NO_HANDLE;
     return tk_diff_region_distinct(handle, column, row, width, height, other, other_column,
-                                   other_row, changes, change_room, texts, room, counts);
+                                   other_row, tk_change_buffer(changes), change_room,
+                                   tk_text_buffer(texts), room, counts);
 }
 
 /* Makes a list of changes, which these bytes encode: the array `[* change]` of docs/stream.cddl
@@ -966,6 +979,75 @@ static inline size_t tk_to_sgr(const tk_attributes *attributes, char text[TK_SGR
     text[at] = '\0';
     return at;
 }
+
+/* ---- Buffers of no room ----
+ *
+ * tk_title(handle, NULL, 0, &len) returns TK_SHORT and the length of the title, unless that is 0.
+ * The macros have the names of the calls that write into buffers, and pass some other pointer where
+ * one is NULL. A name without parentheses is the function, which takes no NULL. */
+
+static inline uint8_t *tk_byte_buffer(uint8_t *buffer) {
+    static uint8_t none;
+    return buffer != NULL ? buffer : &none;
+}
+
+static inline tk_width_range *tk_range_buffer(tk_width_range *buffer) {
+    static tk_width_range none;
+    return buffer != NULL ? buffer : &none;
+}
+
+static inline tk_row_cell *tk_cell_buffer(tk_row_cell *buffer) {
+    static tk_row_cell none;
+    return buffer != NULL ? buffer : &none;
+}
+
+static inline tk_attributes *tk_attribute_buffer(tk_attributes *buffer) {
+    static tk_attributes none;
+    return buffer != NULL ? buffer : &none;
+}
+
+#define tk_widths(handle, kind, ranges, room, count)                                               \
+    tk_widths(handle, kind, tk_range_buffer(ranges), room, count)
+#define tk_title(handle, text, room, len) tk_title(handle, tk_text_buffer(text), room, len)
+#define tk_pen_link(handle, uri, room, len) tk_pen_link(handle, tk_text_buffer(uri), room, len)
+#define tk_pen_link_param(handle, index, key, key_room, key_len, value, value_room, value_len)     \
+    tk_pen_link_param(handle, index, tk_text_buffer(key), key_room, key_len,                       \
+                      tk_text_buffer(value), value_room, value_len)
+#define tk_changed_rows(handle, since, rows, room, count)                                          \
+    tk_changed_rows(handle, since, tk_byte_buffer(rows), room, count)
+#define tk_screen_text(handle, text, room, len)                                                    \
+    tk_screen_text(handle, tk_text_buffer(text), room, len)
+#define tk_row_text(handle, row, filled, text, room, len)                                          \
+    tk_row_text(handle, row, filled, tk_text_buffer(text), room, len)
+#define tk_cell_at(handle, column, row, cell, text, room, len)                                     \
+    tk_cell_at(handle, column, row, cell, tk_text_buffer(text), room, len)
+#define tk_link_at(handle, column, row, uri, room, len)                                            \
+    tk_link_at(handle, column, row, tk_text_buffer(uri), room, len)
+#define tk_link_param_at(handle, column, row, index, key, key_room, key_len, value, value_room,    \
+                         value_len)                                                                \
+    tk_link_param_at(handle, column, row, index, tk_text_buffer(key), key_room, key_len,           \
+                     tk_text_buffer(value), value_room, value_len)
+#define tk_row_cells(handle, row, cells, cell_room, attributes, attribute_room, text, room,        \
+                     counts)                                                                       \
+    tk_row_cells(handle, row, tk_cell_buffer(cells), cell_room, tk_attribute_buffer(attributes),   \
+                 attribute_room, tk_text_buffer(text), room, counts)
+#define tk_shown_cells(handle, row, cells, cell_room, attributes, attribute_room, text, room,      \
+                       counts)                                                                     \
+    tk_shown_cells(handle, row, tk_cell_buffer(cells), cell_room, tk_attribute_buffer(attributes), \
+                   attribute_room, tk_text_buffer(text), room, counts)
+#define tk_line_cells(lines, index, cells, cell_room, attributes, attribute_room, text, room,      \
+                      counts)                                                                      \
+    tk_line_cells(lines, index, tk_cell_buffer(cells), cell_room, tk_attribute_buffer(attributes), \
+                  attribute_room, tk_text_buffer(text), room, counts)
+#define tk_get_changes(handle, since, changes, change_room, texts, room, counts)                   \
+    tk_get_changes(handle, since, tk_change_buffer(changes), change_room, tk_text_buffer(texts),   \
+                   room, counts)
+#define tk_respond(surface, ask, ask_len, bytes, room, len)                                        \
+    tk_respond(surface, ask, ask_len, tk_byte_buffer(bytes), room, len)
+#define tk_client_ask(client, bytes, room, len)                                                    \
+    tk_client_ask(client, tk_byte_buffer(bytes), room, len)
+#define tk_make_ask(source, number, bytes, room, len)                                              \
+    tk_make_ask(source, number, tk_byte_buffer(bytes), room, len)
 
 #ifdef __cplusplus
 }

@@ -117,6 +117,10 @@ static void test_unlogged(void) {
     const char *const texts = "hinewuか";
     const tk_change past = text_of(TK_CHANGE_TEXT, 2), x = text_of(TK_CHANGE_TEXT, 1);
     const tk_change region = {.kind = TK_CHANGE_SCROLL_UP, .first = 1, .second = 2, .third = 1};
+    CHECK(tk_add_list(&surface, list, 0, "", 0, true, false, &surface) == TK_NO_HANDLE);
+    CHECK(tk_add_list(&surface, list, 0, "", 0, true, true, &none) == TK_NO_HANDLE);
+    CHECK(tk_add_list(&surface, list, 0, "", 0, true, true, &client) == TK_WRONG_KIND);
+    CHECK(tk_add_list(&surface, list, 0, "", 0, true, false, &client) == TK_DONE); /* unread */
     CHECK(tk_add_unlogged(&surface, list, 0, "", 0) == TK_DONE && number_is(&surface, 0));
     CHECK(tk_add_unlogged(&none, list, COUNT(list), texts, strlen(texts)) == TK_NO_HANDLE);
     CHECK(tk_add_unlogged(&client, list, COUNT(list), texts, strlen(texts)) == TK_WRONG_KIND);

@@ -452,7 +452,8 @@ tk_status tk_add_list_distinct(tk_handle *surface, const tk_change *changes, siz
  * A list that has a fault changes nothing, and its first fault is returned. TK_RANGE: a change's
  * kind or another of its numbers is out of its range, its text goes past the end of the texts, or
  * bytes of these are left after the last change. TK_UNREADABLE: a text is no UTF-8. TK_REGION.
- * After an error no line is added, but after TK_MEMORY the first of these rows may have been. */
+ * TK_WRONG_KIND: `lines` has no lines, where they are kept. After an error no line is added, but
+ * after TK_MEMORY the first of these rows may have been. */
 static inline tk_status tk_add_list(tk_handle *surface, const tk_change *changes, size_t count,
                                     const char *texts, size_t len, bool is_logged,
                                     bool keeps_lines, tk_handle *lines) {
@@ -510,15 +511,18 @@ tk_status tk_get_changes(tk_handle *handle, size_t since, tk_change *changes, si
                          char *texts, size_t room, tk_list_counts *counts);
 
 /* A buffer, or some other pointer where it is NULL: its room is 0 then, and nothing is written. */
-static inline char *tk_text_buffer(char *buffer) {
-    static char none;
-    return buffer != NULL ? buffer : &none;
-}
-
-static inline tk_change *tk_change_buffer(tk_change *buffer) {
-    static tk_change none;
-    return buffer != NULL ? buffer : &none;
-}
+#define TK_BUFFER_OF(name, type)                                                                   \
+    static inline type *name(type *buffer) {                                                       \
+        static type none;                                                                          \
+        return buffer != NULL ? buffer : &none;                                                    \
+    }
+TK_BUFFER_OF(tk_text_buffer, char)
+TK_BUFFER_OF(tk_byte_buffer, uint8_t)
+TK_BUFFER_OF(tk_change_buffer, tk_change)
+TK_BUFFER_OF(tk_cell_buffer, tk_row_cell)
+TK_BUFFER_OF(tk_attribute_buffer, tk_attributes)
+TK_BUFFER_OF(tk_range_buffer, tk_width_range)
+#undef TK_BUFFER_OF
 
 tk_status tk_diff_screens_distinct(tk_handle *handle, tk_handle *other, tk_change *changes,
                                    size_t change_room, char *texts, size_t room,
@@ -985,26 +989,6 @@ static inline size_t tk_to_sgr(const tk_attributes *attributes, char text[TK_SGR
  * tk_title(handle, NULL, 0, &len) returns TK_SHORT and the length of the title, unless that is 0.
  * The macros have the names of the calls that write into buffers, and pass some other pointer where
  * one is NULL. A name without parentheses is the function, which takes no NULL. */
-
-static inline uint8_t *tk_byte_buffer(uint8_t *buffer) {
-    static uint8_t none;
-    return buffer != NULL ? buffer : &none;
-}
-
-static inline tk_width_range *tk_range_buffer(tk_width_range *buffer) {
-    static tk_width_range none;
-    return buffer != NULL ? buffer : &none;
-}
-
-static inline tk_row_cell *tk_cell_buffer(tk_row_cell *buffer) {
-    static tk_row_cell none;
-    return buffer != NULL ? buffer : &none;
-}
-
-static inline tk_attributes *tk_attribute_buffer(tk_attributes *buffer) {
-    static tk_attributes none;
-    return buffer != NULL ? buffer : &none;
-}
 
 #define tk_widths(handle, kind, ranges, room, count)                                               \
     tk_widths(handle, kind, tk_range_buffer(ranges), room, count)

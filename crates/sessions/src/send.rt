@@ -183,7 +183,8 @@ fn send_each<O: Write, E: Write>(
     ensures failed { IfErr result (λ error. status_of error ≡ 3) }
     ensures sent { OnOk result (
         Appends (O.contents out.old) (O.contents out.new) (stream_sent outcomes.now)) }
-    ensures begun { AppendsSome (O.contents out.old) (O.contents out.new) (stream_sent outcomes.now) }
+    ensures begun { AppendsSome (O.contents out.old) (O.contents out.new)
+        (stream_sent outcomes.now) }
 {
     for outcome in outcomes {
         send_one(alloc, outcome, out, err)?;

@@ -161,8 +161,8 @@ module _ {W : Type 0} where
     EndsAfter old count (Err e) new = TakesNextOrNone old (Err e) new
 
     -- it takes all answers of its bytes, or stops before one
-    pub record TakesWholeOnes (old : ClientValue W) (result : Result ℕ ClientError) (new : ClientValue W) :
-        Type 0 where
+    pub record TakesWholeOnes (old : ClientValue W) (result : Result ℕ ClientError)
+        (new : ClientValue W) : Type 0 where
       pub mid : ClientValue W
       pub has_taken : HasTaken old mid
       pub ends : EndsAfter mid (length has_taken.given) result new

@@ -69,7 +69,8 @@ module _ {W : Type 0} (measure_of : W → List ℕ → ℕ) (histories : ℕ →
 
   -- `count` answers are taken, and the client shows what the last one that fits was given for; of
   -- the others there is no whole one
-  pub record ClientHasFollowed (future : List ℕ) (count : ℕ) (old new : ClientValue W) : Type 0 where
+  pub record ClientHasFollowed (future : List ℕ) (count : ℕ) (old new : ClientValue W) :
+      Type 0 where
     pub given : List Given
     pub counted : count ≡ length given
     pub others : List Given
@@ -89,7 +90,8 @@ module _ {W : Type 0} (measure_of : W → List ℕ → ℕ) (histories : ℕ →
     pub named : IsPictureNamed histories (shown_by new)
 
   -- nothing but want of memory or of numbers keeps it from taking all that are whole
-  abbrev pub ClientFollowsTo : List ℕ → ClientValue W → Result ℕ ClientError → ClientValue W → Type 0
+  abbrev pub ClientFollowsTo :
+      List ℕ → ClientValue W → Result ℕ ClientError → ClientValue W → Type 0
   ClientFollowsTo future old (Ok n) new = ClientHasFollowed future n old new
   ClientFollowsTo future old (Err errors.Numbers) new = HasStopped old new
   ClientFollowsTo future old (Err errors.Memory) new = HasStopped old new

@@ -4,8 +4,9 @@ ghost use Rattle.std.specs.Prelude.{Ok, OnErr, OnOk, Some, drop, length, ℕ};
 ghost use Rattle.termwiz_wire.specs.Resuming.{LeadsOn};
 ghost use Rattle.termwiz_share.specs.{ClientValue, EndsHere, Feeds, ClientFollows, FollowsNext};
 ghost use Rattle.termwiz_share.specs.{ClientFollowsTo, FullScreen, Given, HasGiven, IsAsk, IsReady};
-ghost use Rattle.termwiz_share.specs.{DecodesNext, HasBegunNext, IsResponse, IsSurfaceSize, KeepsPiece};
-ghost use Rattle.termwiz_share.specs.{KeepsSources, NumbersRows, TakesWholeOnes, Serves, ShowsSource};
+ghost use Rattle.termwiz_share.specs.{DecodesNext, HasBegunNext, IsResponse, IsSurfaceSize};
+ghost use Rattle.termwiz_share.specs.{KeepsPiece, KeepsSources, NumbersRows, Serves};
+ghost use Rattle.termwiz_share.specs.{ShowsSource, TakesWholeOnes};
 ghost use Rattle.termwiz_share.specs.{SourceValue, TakesNextOrNone, TakesNext};
 ghost use Rattle.termwiz_share.specs.{ask, ask_of, blank_surface, measure, refusal, true};
 
@@ -238,7 +239,8 @@ impl<W: Widths> Client<W> {
         ensures shows { (source : SourceValue W) → Serves (measure W.width_of) source self.old →
             self.old.stopped ≡ None →
             IsResponse (measure W.width_of) source (ask_of self.old) self.old.kept →
-            OnOk result ((result ≡ Ok (Some Taken.Shown)) × ShowsSource source self.new × IsReady self.new) }
+            OnOk result ((result ≡ Ok (Some Taken.Shown)) × ShowsSource source self.new
+            × IsReady self.new) }
         // and is served by it still, also after an error.
         ensures serves { (source : SourceValue W) → Serves (measure W.width_of) source self.old →
             self.old.stopped ≡ None →

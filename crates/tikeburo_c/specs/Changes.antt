@@ -61,7 +61,8 @@ pub record AddsBytes (bytes : List ℕ) (old : SourceValue ChosenWidths) (outcom
     (new : SourceValue ChosenWidths) : Type 0 where
   pub adds :
       (cs : List ChangeValue) → AreChanges (columns_by old.surface.widths) cs →
-      bytes ≡ changes (columns_by old.surface.widths) cs → OrNoMemory (AddsChanges cs) old outcome new
+      bytes ≡ changes (columns_by old.surface.widths) cs →
+      OrNoMemory (AddsChanges cs) old outcome new
   -- whatever the bytes are, they are refused by what is wrong with them, or encode a list that is
   -- added
   pub others :

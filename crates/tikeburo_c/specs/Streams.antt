@@ -107,7 +107,8 @@ taken_fields (Some (shows.Stale at)) = record { kind = 2; at = at }
 abbrev pub FailsInto : ClientError → FaultFields → Outcome → FaultFields → Type 0
 FailsInto (errors.Fault f) old outcome new =
     (outcome ≡ Err Unreadable) × (new ≡ fields_at (fault_number f.kind) f.at f.change)
-FailsInto (errors.Size at) old outcome new = (outcome ≡ Err Unreadable) × (new ≡ fields_at 5 at None)
+FailsInto (errors.Size at) old outcome new =
+    (outcome ≡ Err Unreadable) × (new ≡ fields_at 5 at None)
 FailsInto errors.Numbers old outcome new = (outcome ≡ Err Numbers) × (new ≡ old)
 FailsInto errors.Memory old outcome new = (outcome ≡ Err Memory) × (new ≡ old)
 

@@ -49,7 +49,8 @@ fn give_changed_of(
     room: &mut [u8],
     len: &mut usize,
 ) -> Result<(), Failure>
-    ensures { ReadsInto (λ s. OrNoMemory (GivesInto (specs_of.changed_rows since s))) (Some kept.now)
+    ensures { ReadsInto (λ s. OrNoMemory (GivesInto (specs_of.changed_rows since s)))
+        (Some kept.now)
         (room.old, len.old) result (room.new, len.new) }
 {
     let surface = kept.shown()?;

@@ -1,6 +1,7 @@
 //! A follower of your own, which is sent what changed since it asked last.
 ghost use Rattle.std.specs.Prelude.{◌≡◌, ◌∷◌, [], Err, IfOk, OnErr, OnOk, false};
-ghost use Rattle.uses.specs.{MakesOrRefuses, FollowerCatchesUp, Follows, InTurn, ScrollRegion, ViewerValue};
+ghost use Rattle.uses.specs.{FollowerCatchesUp, Follows, InTurn, MakesOrRefuses, ScrollRegion};
+ghost use Rattle.uses.specs.{ViewerValue};
 ghost use Rattle.uses.specs.{blank_surface, change_value, measure, next_number, screen_after};
 ghost use Rattle.uses.specs.{screen_of};
 
@@ -106,7 +107,8 @@ pub fn make_and_show<W: Widths>(
     ensures either { InTurn
         (λ r. MakesOrRefuses (measure W.width_of surface.old.widths)
         surface.old (change_value change ∷ []) r surface.new) (follower.new ≡ follower.old)
-        (λ r. FollowerCatchesUp (measure W.width_of) surface.new follower.old r follower.new) result }
+        (λ r. FollowerCatchesUp (measure W.width_of) surface.new follower.old r follower.new)
+        result }
     ensures shown { OnOk result (screen_of follower.new.surface ≡ screen_of surface.new) }
     ensures follows { Follows (measure W.width_of) follower.new surface.new }
     ensures width { follower.new.surface.width ≡ surface.new.width }

@@ -1,7 +1,8 @@
 //! Copies of a surface's rows, as a renderer has them that paints row by row: just the rows that
 //! may have changed are copied again.
 ghost use Rattle.std.specs.Prelude.{◌≡◌, ◌<◌, ◌≤◌, IfOk, OnErr, OnOk, length, map, ℕ};
-ghost use Rattle.uses.specs.{MakesOrRefuses, AreCopiesAt, CopiesRows, InTurn, KeepsOthers, MayDiffer};
+ghost use Rattle.uses.specs.{AreCopiesAt, CopiesRows, InTurn, KeepsOthers, MakesOrRefuses};
+ghost use Rattle.uses.specs.{MayDiffer};
 ghost use Rattle.uses.specs.{cells_of, change_value, measure, next_number, number_at, row_of};
 ghost use Rattle.uses.specs.{rows_shown, screen_after, screen_of, shown_at};
 

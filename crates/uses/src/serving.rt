@@ -2,7 +2,8 @@
 ghost use Rattle.std.specs.Prelude.{◌≡◌, ◌⊎◌, ◌+◌, ◌<◌, ◌≤◌, ◌∷◌, [], IfErr, IfOk, OnErr, OnOk};
 ghost use Rattle.std.specs.Prelude.{map, take, true, vec_len};
 ghost use Rattle.uses.specs.{Adds, IsReady, IsResponse, IsSurfaceSize, KeepsClients};
-ghost use Rattle.uses.specs.{MayRefuse, Serves, ServesAll, ServesOnce, Shares, AllShowSource, Stands};
+ghost use Rattle.uses.specs.{AllShowSource, MayRefuse, Serves, ServesAll, ServesOnce, Shares};
+ghost use Rattle.uses.specs.{Stands};
 ghost use Rattle.uses.specs.{blank_surface, change_value, full_after, full_of, measure};
 ghost use Rattle.uses.specs.{PreservesServing, SourceValue, TakesResponse, ask_of};
 ghost use Rattle.uses.specs.{next_number, trimmed};

@@ -1,6 +1,7 @@
 //! A window of widgets, and a viewer that shows it.
 ghost use Rattle.std.specs.Prelude.{◌≡◌, Err, OnOk};
-ghost use Rattle.uses.specs.{DrawsOn, FollowsOnce, Follows, HasDrawn, InTurn, IsDrawn, ScrollRegion};
+ghost use Rattle.uses.specs.{DrawsOn, Follows, FollowsOnce, HasDrawn, InTurn, IsDrawn};
+ghost use Rattle.uses.specs.{ScrollRegion};
 ghost use Rattle.uses.specs.{measure, region_at, screen_of, whole_at};
 
 use termwiz_surface::{SequenceNo, Surface, SurfaceError, Viewer, Widths};

@@ -44,8 +44,8 @@ impl<W: Widths> Surface<W> {
         Ok(())
     }
 
-    // Moves the first `count` rows to the end of the lines that are kept, and leaves rows of default
-    // blanks in their place.
+    // Moves the first `count` rows to the end of the lines that are kept, and leaves rows of
+    // default blanks in their place.
     fn take_rows<L: LineSink>(&mut self, count: usize, lines: &mut L) -> Result<(), AllocError>
         requires inside { count ≤ self.old.height }
         requires keeps { IsTrue L.KEEPS }

@@ -4,7 +4,7 @@ ghost use Rattle.termwiz_cell.specs.{asked_by, at_version, chars, columns_of, is
 ghost use Rattle.termwiz_cell.specs.{list_all, unicode_columns, variation, version_index};
 ghost use Rattle.termwiz_cell.specs.declared.emoji.Presentation.TheVariants.{Text};
 
-use termwiz_text::{Graphemes, is_one_letter, is_one_plain};
+use termwiz_text::{Graphemes, is_letter, is_narrow, is_one_plain, only_char};
 use unicode_width::UnicodeWidthStr;
 
 /// How a character is shown, where it has two forms.
@@ -183,15 +183,17 @@ impl Widths for UnicodeWidths {
 
     ghost space_has_one = { λ _ _. unicode_columns-space };
 
-    // No table is read for one character of printable ASCII, of kana, or of the common ideographs.
-    #[tactic(auto, using(crate::proofs::PlainWidths::one_plain_width, crate::proofs::PlainWidths::one_letter_width))]
+    // No table is read for one character of printable ASCII, for one letter of kana or common
+    // ideograph, or for one of the common narrow characters.
+    #[tactic(auto, using(crate::proofs::PlainWidths::one_plain_width, crate::proofs::PlainWidths::one_letter_width, crate::proofs::PlainWidths::one_narrow_width))]
     fn width(&self, text: &str, _version: Option<UnicodeVersion>) -> usize {
         if is_one_plain(text) {
-            1
-        } else if is_one_letter(text) {
-            2
-        } else {
-            table_width(text)
+            return 1;
+        }
+        match only_char(text) {
+            Some(letter) if is_letter(letter) => 2,
+            Some(narrow) if is_narrow(narrow) => 1,
+            _ => table_width(text),
         }
     }
 

@@ -1,13 +1,12 @@
 -- The three bytes of a letter.
 use Rattle.std.proofs.Common.{◌≡◌, ℕ, ◌+◌, ◌*◌, ◌/◌, ◌%◌, ◌<◌, ◌≤◌, true, false, ◌||◌, inl, inr, List, [], ◌∷◌, ◌++◌, length, get_or, take, drop, refl, sym, ap, ◌∙◌, arith}
-use Rattle.std.proofs.lemmas.Bool.{cases_Bool, cases_lt, le-ltb, lt-ltb, true≢false}
+use Rattle.std.proofs.lemmas.Bool.{cases_Bool, cases_lt, le-ltb, lt-ltb, ltb-true, true≢false}
 use Rattle.std.proofs.lemmas.Str.{chars-nil, encodes-chars}
 use Rattle.std.specs.Prelude.{encode_utf8, encode_utf8_all}
-use Rattle.std.specs.Char.{is_ascii}
 use Rattle.std.specs.List.{list_all}
 use Rattle.std.specs.Str.{chars, IsUtf8}
 use lib.Utf8.{encode}
-use Rattle.termwiz_text.specs.Letter.{is_letter, begins_simple, begins_letter}
+use Rattle.termwiz_text.specs.Letter.{is_letter, is_narrow, begins_simple, begins_letter}
 use Rattle.termwiz_text.specs.Plain.{begins_ascii}
 use Rattle.termwiz_text.proofs.Ascii.{chars_ascii}
 use Rattle.termwiz_text.proofs.LetterRuns.{letter_to, one_more}
@@ -100,23 +99,10 @@ none_by_bytes bs u never = elim (cases_Bool (begins_letter (chars bs))) [
   | inr n ↦ sym n
 ]
 
--- a simple character first, by the first byte and the letters
-pub simple_by_bytes : (bs : List ℕ) → IsUtf8 bs → (begins_ascii bs || begins_letter (chars bs)) ≡ begins_simple (chars bs)
-simple_by_bytes [] u = sym (ap begins_simple chars-nil)
-simple_by_bytes (b ∷ bs) u = elim (cases_lt b 0x80) [
-  | inl l ↦ rw (chars_ascii b bs u l) refl
-  | inr m ↦ some m (chars (b ∷ bs)) (encodes-chars (b ∷ bs) u)
-]
-  where
-    some : 0x80 ≤ b → (cs : List ℕ) → encode_utf8_all cs ≡ b ∷ bs → (is_ascii b || begins_letter cs) ≡ begins_simple cs
-    some m [] e = absurd cc
-    some m (c ∷ cs) e = elim (cases_lt c 0x80) [
-      | inl l ↦
-          let k : c ∷ encode_utf8_all cs ≡ b ∷ bs = sym (ap (λ t. t ++ encode_utf8_all cs) (encode_one c l)) ∙ e in
-          let same : c ≡ b = cc in
-          absurd (omega arith)
-      | inr n ↦ ap (λ x. x || is_letter c) (le-ltb b 0x80 m) ∙ sym (ap (λ x. x || is_letter c) (le-ltb c 0x80 n))
-    ]
+-- a character of ASCII first is a simple one
+pub ascii_begins_simple : (bs : List ℕ) → IsUtf8 bs → begins_ascii bs ≡ true → begins_simple (chars bs) ≡ true
+ascii_begins_simple [] u h = ap begins_simple chars-nil
+ascii_begins_simple (b ∷ bs) u h = ap begins_simple (chars_ascii b bs u (ltb-true b 0x80 h)) ∙ ap (λ a. a || is_letter b || is_narrow b) h
 
 -- ---- counting
 

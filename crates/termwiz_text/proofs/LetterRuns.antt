@@ -14,7 +14,7 @@ use Rattle.std.specs.List.{list_all}
 use Rattle.std.specs.Str.{chars, IsUtf8, IsCharBoundary}
 use Rattle.unicode_segmentation.specs.Grapheme.{graphemes}
 use Rattle.unicode_segmentation.proofs.TextLemmas.{IsUtf8-before}
-use Rattle.termwiz_text.specs.Letter.{is_letter, is_simple, begins_simple, begins_letter, begins_lone_letter, AreLetters, IsLetterRun}
+use Rattle.termwiz_text.specs.Letter.{is_letter, is_narrow, is_simple, begins_simple, begins_letter, begins_lone_letter, AreLetters, IsLetterRun}
 use Rattle.termwiz_text.proofs.Boundaries.{breaks, breaks-end}
 use Rattle.termwiz_text.proofs.First.{graphemes-nil}
 use Rattle.termwiz_text.proofs.Letters.{letter_from}
@@ -47,7 +47,7 @@ letters_bytes (c ∷ ls) h =
     omega (arith, length-append (encode_utf8 c) (encode_utf8_all ls), letter_bytes c parts.0, letters_bytes ls parts.1)
 
 letter_simple : (c : ℕ) → is_letter c ≡ true → is_simple c ≡ true
-letter_simple c h = ap (λ b. is_ascii c || b) h ∙ or-true (is_ascii c)
+letter_simple c h = ap (λ b. is_ascii c || b || is_narrow c) h ∙ ap (λ b. b || is_narrow c) (or-true (is_ascii c))
 
 -- ---- a text cut after letters
 

@@ -11,7 +11,7 @@ use Rattle.std.specs.List.{list_all}
 use Rattle.std.specs.Str.{chars, IsUtf8, IsAscii, IsCharBoundary}
 use Rattle.unicode_segmentation.specs.Grapheme.{graphemes}
 use Rattle.termwiz_text.specs.Plain.{is_plain, begins_alone, IsPlainRun}
-use Rattle.termwiz_text.specs.Letter.{is_letter, is_simple, begins_simple}
+use Rattle.termwiz_text.specs.Letter.{is_letter, is_narrow, is_simple, begins_simple}
 use Rattle.termwiz_text.proofs.Simple.{simple_breaks}
 use Rattle.termwiz_text.proofs.Ascii.{chars_ascii, IsUtf8-past_ascii, graphemes_ascii}
 use Rattle.termwiz_text.proofs.Boundaries.{breaks, breaks-end}
@@ -28,9 +28,15 @@ plain_unmarked c h = lt-ltb c 128 (plain_ascii c h)
 plain_not_cr : (p q : ℕ) → is_plain p ≡ true → (p == 13 && q == 10) ≡ false
 plain_not_cr p q h = let le = leb-true 0x20 p (and_parts (nat_le 0x20 p) (nat_le p 0x7E) h).0 in ap (λ b. b && q == 10) (ne_eqb p 13 (omega arith))
 
+pub ascii_simple : (c : ℕ) → is_ascii c ≡ true → is_simple c ≡ true
+ascii_simple c h = ap (λ b. b || is_letter c || is_narrow c) h
+
+pub plain_simple : (p : ℕ) → is_plain p ≡ true → is_simple p ≡ true
+plain_simple p h = ascii_simple p (plain_unmarked p h)
+
 -- between such a character and one of ASCII there is always a boundary
 pub plain_breaks : (p : ℕ) (before : List ℕ) (q : ℕ) (after : List ℕ) → is_plain p ≡ true → is_ascii q ≡ true → breaks (p ∷ before) (q ∷ after) ≡ true
-plain_breaks p before q after a b = simple_breaks p before q after (ap (λ s. s || is_letter p) (plain_unmarked p a)) (ap (λ s. s || is_letter q) b) (plain_not_cr p q a)
+plain_breaks p before q after a b = simple_breaks p before q after (plain_simple p a) (ascii_simple q b) (plain_not_cr p q a)
 
 pub chars_plain : (p : ℕ) (b : List ℕ) → IsUtf8 (p ∷ b) → is_plain p ≡ true → chars (p ∷ b) ≡ p ∷ chars b
 chars_plain p b u h = chars_ascii p b u (plain_ascii p h)
@@ -40,9 +46,6 @@ IsUtf8-past_plain p b u h = IsUtf8-past_ascii p b u (plain_ascii p h)
 
 pub encode_one : (p : ℕ) → is_plain p ≡ true → encode_utf8_all (p ∷ []) ≡ p ∷ []
 encode_one p h = append-nil (encode_utf8 p) ∙ encode_ascii p (plain_ascii p h)
-
-pub plain_simple : (p : ℕ) → is_plain p ≡ true → is_simple p ≡ true
-plain_simple p h = ap (λ b. b || is_letter p) (plain_unmarked p h)
 
 -- so where a simple character follows, or none
 plain_ends : (p : ℕ) (cs : List ℕ) → is_plain p ≡ true → begins_simple cs ≡ true → breaks (p ∷ []) cs ≡ true

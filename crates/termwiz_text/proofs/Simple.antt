@@ -1,5 +1,6 @@
 -- Characters that the rules on graphemes leave apart: between two of them there is a boundary, but for a CR before an LF.
-use Rattle.std.proofs.Common.{◌≡◌, ℕ, ◌<◌, Bool, true, false, cond, not, ◌&&◌, ◌||◌, ◌==◌, inl, inr, List, [], ◌∷◌, map, unwrap_or, eqb-true, refl, sym, ap, ap₂, ◌∙◌, arith}
+use Rattle.std.proofs.Common.{◌≡◌, ℕ, ◌<◌, ◌≤◌, Bool, true, false, cond, not, ◌&&◌, ◌||◌, ◌==◌, inl, inr, List, [], ◌∷◌, map, unwrap_or, eqb-true, refl, sym, ap, ap₂, ◌∙◌, arith}
+use Rattle.std.proofs.Math.Bool.{or-true}
 use Rattle.std.proofs.lemmas.Bool.{and_right, or_cases, not-true, ne_eqb, ltb-true}
 use Rattle.std.specs.Char.{is_ascii}
 use Rattle.ucd_table.proofs.Computing.{tables}
@@ -13,9 +14,9 @@ use Rattle.ucd_derived.proofs.IndicConjunctBreakLemmas.{indic_conjunct_break_ste
 use Rattle.ucd_emoji.specs.Binary.{is_extended_pictographic}
 use Rattle.unicode_segmentation.specs.Grapheme.{break_by_pair, is_consonant, is_zwj, is_regional, ends_in_linker, ends_in_pictograph, ends_in_half_flag, joins_conjunct, joins_emoji, joins_flag, is_grapheme_break}
 use Rattle.termwiz_text.specs.Plain.{is_plain}
-use Rattle.termwiz_text.specs.Letter.{is_letter, is_simple}
+use Rattle.termwiz_text.specs.Letter.{is_letter, is_narrow, is_simple}
 use Rattle.termwiz_text.proofs.Boundaries.{breaks}
-use Rattle.termwiz_text.proofs.Letters.{letters_stepped, Stepped-letters, letter_from}
+use Rattle.termwiz_text.proofs.Letters.{letters_stepped, Stepped-letters, letter_from, narrow_stepped, Stepped-narrow, narrow_from}
 
 -- ---- what the tables say of them
 
@@ -24,7 +25,7 @@ abbrev pub value_by : Bool → Bool → Bool → GraphemeClusterBreak
 value_by cr lf printable = cond cr Cr (cond lf Lf (cond printable Other Control))
 
 abbrev simple_value : ℕ → GraphemeClusterBreak
-simple_value c = value_by (c == 13) (c == 10) (is_plain c || is_letter c)
+simple_value c = value_by (c == 13) (c == 10) (is_plain c || is_letter c || is_narrow c)
 
 pub record IsSimple (c : ℕ) : Type 0 where
   pub value : grapheme_cluster_break c ≡ simple_value c
@@ -52,24 +53,39 @@ letter_no_consonant : (c : ℕ) → is_letter c ≡ true → not (is_consonant (
 unfolding tables indic_conjunct_break_stepped letters_stepped
 letter_no_consonant = Stepped-letters indic_conjunct_break indic_conjunct_break_stepped (λ v. not (is_consonant v)) refl
 
+narrow_other : (c : ℕ) → is_narrow c ≡ true → grapheme_cluster_break_eq (grapheme_cluster_break c) Other ≡ true
+unfolding tables grapheme_cluster_break_stepped narrow_stepped
+narrow_other = Stepped-narrow grapheme_cluster_break grapheme_cluster_break_stepped (λ g. grapheme_cluster_break_eq g Other) refl
+
+narrow_no_consonant : (c : ℕ) → is_narrow c ≡ true → not (is_consonant (indic_conjunct_break c)) ≡ true
+unfolding tables indic_conjunct_break_stepped narrow_stepped
+narrow_no_consonant = Stepped-narrow indic_conjunct_break indic_conjunct_break_stepped (λ v. not (is_consonant v)) refl
+
+-- a character beyond ASCII of which the tables say no more
+simple_other : (c : ℕ) → 0xA1 ≤ c → (is_plain c || is_letter c || is_narrow c) ≡ true → grapheme_cluster_break_eq (grapheme_cluster_break c) Other ≡ true → not (is_consonant (indic_conjunct_break c)) ≡ true → IsSimple c
+simple_other c from printable other none =
+    record {
+      value =
+          grapheme_cluster_break_number_injective _ _ (eqb-true _ _ other)
+          ∙ sym (ap₂ (λ a b. value_by a b (is_plain c || is_letter c || is_narrow c)) (ne_eqb c 13 (omega arith)) (ne_eqb c 10 (omega arith)) ∙ ap (value_by false false) printable);
+      no_consonant = not-true _ none;
+    }
+
 simple_letter : (c : ℕ) → is_letter c ≡ true → IsSimple c
 simple_letter c h =
     let from = letter_from c h in
-    record {
-      value =
-          grapheme_cluster_break_number_injective _ _ (eqb-true _ _ (letter_other c h))
-          ∙ sym (ap₂ (λ a b. value_by a b (is_plain c || is_letter c)) (ne_eqb c 13 (omega arith)) (ne_eqb c 10 (omega arith)) ∙ ap (λ b. value_by false false (is_plain c || b)) h ∙ ap (value_by false false) (or_true (is_plain c)));
-      no_consonant = not-true _ (letter_no_consonant c h);
-    }
-  where
-    or_true : (b : Bool) → (b || true) ≡ true
-    or_true true = refl
-    or_true false = refl
+    simple_other c (omega arith) (ap (λ b. is_plain c || b || is_narrow c) h ∙ ap (λ b. b || is_narrow c) (or-true (is_plain c))) (letter_other c h) (letter_no_consonant c h)
+
+simple_narrow : (c : ℕ) → is_narrow c ≡ true → IsSimple c
+simple_narrow c h = simple_other c (narrow_from c h) (ap (λ b. is_plain c || is_letter c || b) h ∙ or-true (is_plain c || is_letter c)) (narrow_other c h) (narrow_no_consonant c h)
 
 pub simple_is : (c : ℕ) → is_simple c ≡ true → IsSimple c
-simple_is c h = elim (or_cases (is_ascii c) (is_letter c) h) [
-  | inl a ↦ simple_ascii c (ltb-true c 128 a)
-  | inr l ↦ simple_letter c l
+simple_is c h = elim (or_cases (is_ascii c || is_letter c) (is_narrow c) h) [
+  | inl some ↦ elim (or_cases (is_ascii c) (is_letter c) some) [
+    | inl a ↦ simple_ascii c (ltb-true c 128 a)
+    | inr l ↦ simple_letter c l
+  ]
+  | inr n ↦ simple_narrow c n
 ]
 
 -- ---- the boundary between them
@@ -108,7 +124,7 @@ simple_breaks p before q after a b e =
     let right : IsSimple q = simple_is q b in
     let rest = not (joins_conjunct (p ∷ before) q || joins_emoji (p ∷ before) q || joins_flag (p ∷ before) q) in
     let values : breaks (p ∷ before) (q ∷ after) ≡ by_pair rest (simple_value p) (simple_value q) = ap₂ (by_pair rest) left.value right.value in
-    values ∙ pair_breaks rest (p == 13) (p == 10) (is_plain p || is_letter p) (q == 13) (q == 10) (is_plain q || is_letter q) e
+    values ∙ pair_breaks rest (p == 13) (p == 10) (is_plain p || is_letter p || is_narrow p) (q == 13) (q == 10) (is_plain q || is_letter q || is_narrow q) e
     (λ l r. sym values ∙ others_break p before q after (left.value ∙ l) (right.value ∙ r) right.no_consonant)
 
 -- so an LF has one after it whatever follows, and a CR before it none

@@ -1,5 +1,5 @@
 -- Characters that the rules on graphemes leave apart, and that so need no table.
-use Rattle.std.specs.Prelude.{◌≡◌, ℕ, ◌<◌, ◌≤◌, Bool, true, false, ◌&&◌, ◌||◌, ◌==◌, List, [], ◌∷◌, ◌++◌, map, length, encode_utf8}
+use Rattle.std.specs.Prelude.{◌≡◌, ℕ, ◌<◌, ◌≤◌, Bool, true, false, ◌&&◌, ◌||◌, ◌==◌, List, [], ◌∷◌, ◌++◌, map, length, encode_utf8, Option, Some, None}
 use Rattle.std.specs.Char.{is_ascii}
 use Rattle.std.specs.Int.{is_in_range}
 use Rattle.std.specs.List.{list_all}
@@ -11,15 +11,22 @@ abbrev pub is_letter : ℕ → Bool
 is_letter c =
     is_in_range 0x3041 0x3096 c || is_in_range 0x30A1 0x30FA c || is_in_range 0x4E00 0x9FFF c
 
--- the characters are one such letter
-abbrev pub is_one_letter : List ℕ → Bool
-is_one_letter (c ∷ []) = is_letter c
-is_one_letter _ = false
+-- a letter of Latin, Greek or Cyrillic beyond ASCII, a mathematical operator, a part of a box or a
+-- block, or a braille pattern
+abbrev pub is_narrow : ℕ → Bool
+is_narrow c =
+    is_in_range 0x00C0 0x02FF c || is_in_range 0x0391 0x03C9 c || is_in_range 0x0400 0x0482 c
+    || is_in_range 0x2200 0x22FF c || is_in_range 0x2500 0x259F c || is_in_range 0x2800 0x28FF c
 
--- a character of ASCII, or such a letter: between two of these there is a boundary, but for a CR
--- before an LF
+-- the character, where it is the only one
+abbrev pub only_char : List ℕ → Option ℕ
+only_char (c ∷ []) = Some c
+only_char _ = None
+
+-- a character of ASCII, or such a letter or narrow one: between two of these there is a boundary,
+-- but for a CR before an LF
 abbrev pub is_simple : ℕ → Bool
-is_simple c = is_ascii c || is_letter c
+is_simple c = is_ascii c || is_letter c || is_narrow c
 
 -- nothing, or a simple character first
 abbrev pub begins_simple : List ℕ → Bool

@@ -5,7 +5,7 @@
 //! follows it is cut as a text of its own (`specs/First.antt`). Whether a text can be appended as
 //! one more grapheme is decided from the last piece alone (`joined`, `specs/CutAt.antt`). Printable
 //! ASCII (`specs/Plain.antt`) and letters of kana and common ideographs (`specs/Letter.antt`) need
-//! no tables: a run of either is split off at once.
+//! no tables: a run of either is split off at once. Nor do common narrow characters, one by one.
 #![tactic(auto)]
 
 ghost use Rattle.std.specs.Prelude.{◌++◌, [], IsUtf8, List, MatchOption, drop, min, slice_index_or};
@@ -74,28 +74,58 @@ fn is_letter_number(number: u32) -> bool
     matches!(number, 0x3041..=0x3096 | 0x30A1..=0x30FA | 0x4E00..=0x9FFF)
 }
 
-/// Whether the text is one character for which `is_letter` holds.
-pub fn is_one_letter(text: &str) -> bool
-    ensures { result ≡ letter.is_one_letter (chars text.now) }
+/// Whether the character is a letter of Latin beyond ASCII (U+00C0 to U+02FF), of Greek (U+0391 to
+/// U+03C9) or of Cyrillic (U+0400 to U+0482), a mathematical operator (U+2200 to U+22FF), a part
+/// of a box or a block (U+2500 to U+259F), or a braille pattern (U+2800 to U+28FF). Other
+/// characters of one column don't count.
+pub fn is_narrow(c: char) -> bool
+    ensures { result ≡ letter.is_narrow c }
+{
+    matches!(
+        u32::from(c),
+        0x00C0..=0x02FF
+            | 0x0391..=0x03C9
+            | 0x0400..=0x0482
+            | 0x2200..=0x22FF
+            | 0x2500..=0x259F
+            | 0x2800..=0x28FF
+    )
+}
+
+/// The character of a text that has only one, or `None` for any other text.
+#[inline]
+pub fn only_char(text: &str) -> Option<char>
+    ensures { result ≡ letter.only_char (chars text.now) }
 {
     let mut chars = text.chars();
-    match chars.next() {
-        Some(only) => is_letter(only) && chars.as_str().is_empty(),
-        None => false,
+    let only = chars.next()?;
+    if !chars.as_str().is_empty() {
+        return None;
     }
+    Some(only)
 }
 
 fn is_simple(c: char) -> bool
     ensures { result ≡ letter.is_simple c }
 {
-    c.is_ascii() || is_letter(c)
+    c.is_ascii() || is_letter(c) || is_narrow(c)
 }
 
 // Whether the text is empty or begins with a simple character, which is no mark on the one before.
 fn begins_simple(text: &str) -> bool
     ensures { result ≡ letter.begins_simple (chars text.now) }
 {
-    begins_ascii(text) || begins_letter(text)
+    begins_ascii(text) || begins_simple_char(text)
+}
+
+// Decides it by the character. It is kept apart, so that the path of ASCII is short.
+fn begins_simple_char(text: &str) -> bool
+    ensures { result ≡ letter.begins_simple (chars text.now) }
+{
+    match text.chars().next() {
+        Some(first) => is_simple(first),
+        None => true,
+    }
 }
 
 // Whether the text is empty or begins with a character of ASCII.
@@ -192,7 +222,7 @@ fn count_plain(bytes: &[u8], limit: usize) -> usize
 ///
 /// The run may be empty. It is shorter than `limit` only where the rest is empty, begins with
 /// another character, or begins with printable ASCII directly before a character that may be a mark
-/// on it: one that is neither ASCII nor a letter for which `is_letter` holds.
+/// on it: one that isn't ASCII, and for which neither `is_letter` nor `is_narrow` holds.
 pub fn split_plain_run(text: &str, limit: usize) -> (&str, &str)
     ensures { plain.IsPlainRun text.now limit result.0.now result.1.now }
 {
@@ -249,7 +279,7 @@ fn count_letters(text: &str, limit: usize) -> usize
 ///
 /// The run may be empty. It has fewer letters only where the rest is empty, begins with another
 /// character, or begins with a letter directly before a character that may be a mark on it: one
-/// that is neither a letter nor ASCII.
+/// that isn't ASCII, and for which neither `is_letter` nor `is_narrow` holds.
 pub fn split_letter_run(text: &str, limit: usize) -> (&str, &str)
     ensures { letter.IsLetterRun text.now limit result.0.now result.1.now }
 {

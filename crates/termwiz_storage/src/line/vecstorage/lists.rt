@@ -172,6 +172,22 @@ pub(super) fn put_cells(cells: &mut [Cell], run: &[u8], attrs: &CellAttributes, 
     requires len { length cells.old ≡ length run.now }
     ensures { cells.new ≡ map (λ b. plain_cell b attrs.now) run.now }
 {
+    // So neither loop tests `owns` for each cell.
+    if owns {
+        overwrite_by_run(cells, run, attrs, true);
+    } else {
+        overwrite_by_run(cells, run, attrs, false);
+    }
+}
+
+#[inline(always)]
+fn overwrite_by_run(cells: &mut [Cell], run: &[u8], attrs: &CellAttributes, owns: bool)
+    requires plain { list_all is_plain run.now ≡ true }
+    requires unboxed { needs_box attrs.now ≡ false }
+    requires unowned { owns ≡ false → OwnNothing cells.old }
+    requires len { length cells.old ≡ length run.now }
+    ensures { cells.new ≡ map (λ b. plain_cell b attrs.now) run.now }
+{
     let own = attrs.unboxed_copy().unwrap();
     for k in 0..run.len() {
         let copy = own.unboxed_copy().unwrap();
@@ -194,10 +210,27 @@ pub(super) fn put_copies(
     requires room { from + count ≤ length cells.old }
     ensures { cells.new ≡ put_run from (replicate count byte) attrs.now cells.old }
 {
+    if byte == b' ' && !owns {
+        return put_blanks(cells, from, count, attrs);
+    }
     let own = attrs.unboxed_copy().unwrap();
     for k in 0..count {
         let copy = own.unboxed_copy().unwrap();
         overwrite(&mut cells[from + k], Cell::plain(byte, copy), owns);
+    }
+}
+
+// Overwrites cells that own no memory with blanks, whose text is a constant.
+fn put_blanks(cells: &mut [Cell], from: usize, count: usize, attrs: &CellAttributes)
+    requires unboxed { needs_box attrs.now ≡ false }
+    requires unowned { OwnNothing cells.old }
+    requires room { from + count ≤ length cells.old }
+    ensures { cells.new ≡ put_run from (replicate count 32) attrs.now cells.old }
+{
+    let own = attrs.unboxed_copy().unwrap();
+    for k in 0..count {
+        let copy = own.unboxed_copy().unwrap();
+        overwrite(&mut cells[from + k], Cell::blank_with_attrs(copy), false);
     }
 }
 

@@ -2,7 +2,7 @@ use Rattle.std.proofs.Common.{◌≡◌, ℕ, get_or, ap, ◌∙◌, arith}
 use Rattle.termwiz_cell.specs.CellValue.{plain_cell}
 use Rattle.termwiz_storage.proofs.Owned.{nothing_set}
 use Rattle.termwiz_storage.proofs.Runs.{run_more}
-use Rattle.termwiz_storage.proofs.line.vecstorage.lists.put_cells.Goals as goal
+use Rattle.termwiz_storage.proofs.line.vecstorage.lists.overwrite_by_run.Goals as goal
 
 pub overwrite-requires : goal.overwrite-requires
 overwrite-requires c = λ h. c.loop-k.invariant.unowned h c.loop-k.k _ (omega arith)

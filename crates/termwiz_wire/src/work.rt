@@ -3,8 +3,8 @@ ghost use Rattle.std.specs.Prelude.{◌≡◌, ◌+◌, ◌*◌, ◌<◌, ◌≤
 ghost use Rattle.std.specs.Prelude.{string_bytes, true};
 ghost use Rattle.termwiz_cell.specs.ChangeValue.{change_value};
 ghost use Rattle.termwiz_surface.specs.Unlogged.{lent_value};
-ghost use Rattle.termwiz_wire.specs.Work.{bears, cost, is_first, line_feeds, most_work, scroll_work};
-ghost use Rattle.termwiz_wire.specs.Work.{work, work_of};
+ghost use Rattle.termwiz_wire.specs.Work.{bears, cost, is_first, line_feeds, most_work};
+ghost use Rattle.termwiz_wire.specs.Work.{scroll_work, work, work_of};
 
 use crate::decode::Head;
 use termwiz_cell::change::{Change, Position};

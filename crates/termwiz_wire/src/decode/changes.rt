@@ -1,7 +1,6 @@
 //! Changes.
-ghost use Rattle.std.specs.Prelude.{◌≡◌, ◌≢◌, ◌++◌, ◌+◌, ◌-◌, ◌<◌, ◌≤◌, ◌^◌, [], IfOk, IfSome, List};
-ghost use Rattle.std.specs.Prelude.{None, OnErr, OnOk, ℕ};
-ghost use Rattle.std.specs.Prelude.{drop, length};
+ghost use Rattle.std.specs.Prelude.{◌≡◌, ◌≢◌, ◌++◌, ◌+◌, ◌-◌, ◌<◌, ◌≤◌, ◌^◌, [], IfOk, IfSome};
+ghost use Rattle.std.specs.Prelude.{List, None, OnErr, OnOk, drop, length, ℕ};
 ghost use Rattle.std.specs.Prelude.{false, map, true};
 ghost use Rattle.cbor.specs.Decoding.{Gives, allowed, ok};
 ghost use Rattle.termwiz_cell.specs.ChangeValue as changed;

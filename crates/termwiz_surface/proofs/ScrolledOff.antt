@@ -552,6 +552,24 @@ module _ {W : Type 0} (keeps : Bool) (f : List ℕ → ℕ) (r : SurfaceValue W)
         begins-then r.width (rows_scrolled_off f (screen_of r) (kept_of r) all) (rows_scrolled_off f (screen_of s) (kept_of s) (c ∷ left)) u v x (p.leaves on)
         (begins-before r.width (left_step f (screen_of s) (kept_of s) c) (rows_scrolled_off f (step f (screen_of s) c) (step_kept f (screen_of s) (kept_of s) c) left) (rows_scrolled_off f (screen_of s) (kept_of s) (c ∷ left)) v x refl own)
 
+-- a list of one change
+module _ {W : Type 0} (keeps : Bool) (f : List ℕ → ℕ) (r : SurfaceValue W) (c : ChangeValue) (u : List LineValue) (fit : regions_fit r.height (c ∷ []) ≡ true) where
+  one_begun : AppliesPart keeps f r (c ∷ []) (c ∷ []) u r u
+  one_begun = part-none keeps f r (c ∷ []) u fit
+
+  pub one-begins : (x : List LineValue) → (IsTrue keeps → BeginsRows r.width (left_step f (screen_of r) (kept_of r) c) u x) → IsTrue keeps → BeginsRows r.width (rows_scrolled_off f (screen_of r) (kept_of r) (c ∷ [])) u x
+  one-begins x begins = part-begins keeps f r (c ∷ []) u c [] r u one_begun x begins
+
+  module _ (t : SurfaceValue W) (x : List LineValue) (b : Becomes r (step f (screen_of r) c) (step_kept f (screen_of r) (kept_of r) c) (touches f (screen_of r) c) t) (off : IsTrue keeps → ScrollsOff r.width (left_step f (screen_of r) (kept_of r) c) u x) where
+    one_done : AppliesPart keeps f r (c ∷ []) [] u t x
+    one_done = part-more keeps f r (c ∷ []) u c [] r u one_begun t x b off
+
+    pub one-becomes : Becomes r (replay f (screen_of r) (c ∷ [])) (replay_kept f (screen_of r) (kept_of r) (c ∷ [])) (touched f (screen_of r) (c ∷ [])) t
+    one-becomes = part-all keeps f r (c ∷ []) u t x one_done
+
+    pub one-off : IsTrue keeps → ScrollsOff r.width (rows_scrolled_off f (screen_of r) (kept_of r) (c ∷ [])) u x
+    one-off = part-off keeps f r (c ∷ []) u t x one_done
+
 -- the next one of the changes that are left
 pub mapped-next : {X : Type 0} (f : X → ChangeValue) (xs : List X) (i : ℕ) (x : X) → i < length xs → x ≡ get_or xs i x → map f (drop i xs) ≡ f x ∷ map f (drop (i + 1) xs)
 mapped-next {X = X} f xs i x inside e = at_drop_more (λ (ys : List X). map f ys) xs i x inside ∙ ap (λ (y : X). f y ∷ map f (drop (i + 1) xs)) (sym e)

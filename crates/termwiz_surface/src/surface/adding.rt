@@ -15,7 +15,6 @@ use crate::scrollback::{LineSink, NoScrollback};
 use crate::view::copied;
 use std::alloc::AllocError;
 use std::borrow::CowSlice;
-use std::slice;
 use termwiz_cell::change::{Change, SequenceNo, any_sets_link, own_links};
 use termwiz_cell::emoji::Widths;
 use termwiz_cell::hyperlink::LinkCopies;
@@ -53,7 +52,7 @@ impl<W: Widths> Surface<W> {
     {
         self.log.reserve(1)?;
         self.mark = self.log.next_number() + 1;
-        self.apply_all(slice::from_ref(&change), lines)?;
+        self.apply(&change, lines)?;
         self.log.push(change)?;
         Ok(())
     }

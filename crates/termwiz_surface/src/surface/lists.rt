@@ -2,7 +2,6 @@
 ghost use Rattle.std.specs.Prelude.{◌≡◌, length};
 ghost use Rattle.termwiz_surface.specs.{change_list, lent_value, map, region_fits, regions_fit};
 
-use std::slice;
 use termwiz_cell::change::Change;
 use termwiz_screen::scroll_region::{region_fits, regions_fit};
 
@@ -74,7 +73,7 @@ impl ChangeList<'_> {
         ensures { result ≡ regions_fit height (change_list self.now) }
     {
         match self {
-            ChangeList::One(change) => regions_fit(slice::from_ref(change), height),
+            ChangeList::One(change) => region_fits(change, height),
             ChangeList::Owned(changes) => regions_fit(changes.as_slice(), height),
             ChangeList::Lent(changes) => regions_fit(changes, height),
             ChangeList::Unlogged(changes) => lent_regions_fit(changes.0, height),

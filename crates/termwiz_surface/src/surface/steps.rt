@@ -193,6 +193,8 @@ impl<W: Widths> Surface<W> {
         Ok(())
     }
 
+    // A list and a single change each have their own copy, so that a step is no call.
+    #[inline(always)]
     pub(super) fn apply<L: LineSink>(
         &mut self,
         change: &Change,

@@ -77,20 +77,20 @@ module _ (row : ℕ) (cells : List CellValue) (old new : SourceValue ChosenWidth
   drawing_is = diff_draws (screen_of old.surface).rows (row_of old.surface.width cells ∷ []) (one_row (screen_of old.surface) row)
 
   -- what the replay shows is shown then
-  drawn_screen : AddsChanges (line_drawing old.surface row cells) old outcome new → (P : Screen → Type 0) →
+  drawn_screen : AddsChanges true (line_drawing old.surface row cells) old outcome new → (P : Screen → Type 0) →
       P (record (screen_of old.surface) { rows = (replay (columns_by old.surface.widths) (screen_of old.surface) (line_diff old.surface row cells)).rows }) → OnOk outcome (P (screen_of new.surface))
   drawn_screen (number, Ok n, is, adds, goes) P p = subst (λ (o : Outcome). OnOk o (P (screen_of new.surface))) (sym is) (subst P (sym (adds.3.screen_is ∙ drawing_restores (columns_by old.surface.widths) (screen_of old.surface) (line_diff old.surface row cells) drawing_is d.column d.row_is)) p)
   drawn_screen (number, Err e, is, adds, goes) P p = subst (λ (o : Outcome). OnOk o (P (screen_of new.surface))) (sym is) tt
 
-  drawn_no_scroll : AddsChanges (line_drawing old.surface row cells) old outcome new → outcome ≡ Err FailedRegion → ⊥
+  drawn_no_scroll : AddsChanges true (line_drawing old.surface row cells) old outcome new → outcome ≡ Err FailedRegion → ⊥
   drawn_no_scroll (number, Ok n, is, adds, goes) e = absurd cc
   drawn_no_scroll (number, Err errors.ScrollRegion, is, adds, goes) e = true≢false (sym (restoring_fits old.surface.height old.surface.x old.surface.y old.surface.pen (line_diff old.surface row cells) drawing_is) ∙ adds.0)
   drawn_no_scroll (number, Err errors.Numbers, is, adds, goes) e = absurd cc
   drawn_no_scroll (number, Err errors.Memory, is, adds, goes) e = absurd cc
 
-  pub draws_line : ArePrintable (columns_by old.surface.widths) cells → AddsChanges changes old outcome new → DrawsLineAs row cells old outcome new
+  pub draws_line : ArePrintable (columns_by old.surface.widths) cells → AddsChanges true changes old outcome new → DrawsLineAs row cells old outcome new
   draws_line printable added =
-      let a = subst (λ (cs : List ChangeValue). AddsChanges cs old outcome new) d.is added in
+      let a = subst (λ (cs : List ChangeValue). AddsChanges true cs old outcome new) d.is added in
       record {
         drawn = a;
         restores = drawn_screen a (λ (s : Screen). s ≡ record (screen_of old.surface) { rows = s.rows }) refl;

@@ -1,5 +1,5 @@
 -- What adding changes makes of a surface.
-use Rattle.std.specs.Prelude.{◌≡◌, ◌⊎◌, ℕ, Result, Ok, Err, List, map}
+use Rattle.std.specs.Prelude.{◌≡◌, ◌⊎◌, ℕ, Bool, true, false, Result, Ok, Err, List, map}
 use Rattle.std.specs.declared.alloc.Global.{Global}
 use Rattle.std.specs.declared.vec.Vec.{Vec}
 use Rattle.termwiz_cell.specs.ChangeValue.{ChangeValue, change_value}
@@ -7,6 +7,7 @@ use Rattle.termwiz_cell.specs.declared.change.Change.{Change}
 use Rattle.termwiz_share.specs.Serving.{PreservesServing}
 use Rattle.termwiz_share.specs.Source.{SourceValue, trimmed}
 use Rattle.termwiz_surface.specs.Adding.{Adds}
+use Rattle.termwiz_surface.specs.Surface.{SurfaceValue}
 use Rattle.termwiz_surface.specs.Unlogged.{AddsUnlogged}
 use Rattle.termwiz_surface.specs.declared.surface.SurfaceError.{SurfaceError}
 use Rattle.termwiz_wire.specs.Answers.{changes_at}
@@ -19,21 +20,19 @@ use Rattle.tikeburo_c.specs.declared.failure.Failure.{Failure}
 use Rattle.tikeburo_c.specs.declared.failure.Failure.TheVariants.{Memory}
 use Rattle.tikeburo_c.specs.declared.widths.ChosenWidths.{ChosenWidths}
 
+-- a surface adds a list of changes, and logs it or not
+abbrev pub AddsAs :
+    Bool → (List ℕ → ℕ) → SurfaceValue ChosenWidths → List ChangeValue → ℕ → Result ℕ SurfaceError →
+    SurfaceValue ChosenWidths → Type 0
+AddsAs true = Adds
+AddsAs false = AddsUnlogged
+
 -- the list of changes is added as the library adds it, whatever number that returns
 abbrev pub AddsChanges :
-    List ChangeValue → SourceValue ChosenWidths → Outcome → SourceValue ChosenWidths → Type 0
-AddsChanges changes old outcome new =
+    Bool → List ChangeValue → SourceValue ChosenWidths → Outcome → SourceValue ChosenWidths → Type 0
+AddsChanges is_logged changes old outcome new =
     (number : ℕ) × (added : Result ℕ SurfaceError) × (outcome ≡ outcome_of changing_failure added) ×
-    Adds (columns_by old.surface.widths) (trimmed old.surface) changes number added new.surface ×
-    PreservesServing columns_by old new
-
--- the list of changes is made as the library makes it that logs none of them, whatever number that
--- returns
-abbrev pub AddsListUnlogged :
-    List ChangeValue → SourceValue ChosenWidths → Outcome → SourceValue ChosenWidths → Type 0
-AddsListUnlogged changes old outcome new =
-    (number : ℕ) × (added : Result ℕ SurfaceError) × (outcome ≡ outcome_of changing_failure added) ×
-    AddsUnlogged (columns_by old.surface.widths) (trimmed old.surface) changes number added
+    AddsAs is_logged (columns_by old.surface.widths) (trimmed old.surface) changes number added
     new.surface ×
     PreservesServing columns_by old new
 
@@ -53,7 +52,7 @@ abbrev pub AddsEncoded :
     List ℕ → SourceValue ChosenWidths → Outcome → SourceValue ChosenWidths → Type 0
 AddsEncoded bytes old outcome new =
     (cs : List ChangeValue) × (bytes ≡ changes (columns_by old.surface.widths) cs) ×
-    AddsChanges cs old outcome new
+    AddsChanges true cs old outcome new
 
 -- the one list of changes that the bytes encode, by how the surface measures, is added, unless
 -- memory for it was refused
@@ -62,7 +61,7 @@ pub record AddsBytes (bytes : List ℕ) (old : SourceValue ChosenWidths) (outcom
   pub adds :
       (cs : List ChangeValue) → AreChanges (columns_by old.surface.widths) cs →
       bytes ≡ changes (columns_by old.surface.widths) cs →
-      OrNoMemory (AddsChanges cs) old outcome new
+      OrNoMemory (AddsChanges true cs) old outcome new
   -- whatever the bytes are, they are refused by what is wrong with them, or encode a list that is
   -- added
   pub others :

@@ -22,7 +22,8 @@ pub record IsRegionDiff (r : Region) (s t : SurfaceValue ChosenWidths)
   -- they give the region, where no wide grapheme crosses an edge
   pub region :
       MeasureAlike columns_by s t →
-      GivesRegion (screen_after columns_by s changes).rows (screen_of s) (screen_of t) (cut_to s t r)
+      GivesRegion (screen_after columns_by s changes).rows (screen_of s) (screen_of t)
+      (cut_to s t r)
 
 -- they are the diff of all that two surfaces show
 pub record IsScreensDiff (s t : SurfaceValue ChosenWidths) (changes : List ChangeValue) :

@@ -16,8 +16,9 @@ use Rattle.tikeburo_c.specs.declared.kept.Kept.{Kept}
 use Rattle.tikeburo_c.specs.declared.widths.ChosenWidths.{ChosenWidths}
 
 -- a region of a surface is drawn on another one as the library draws it
-pub record DrawsAs (source : SurfaceValue ChosenWidths) (r : Region) (old : SourceValue ChosenWidths)
-    (result : Result ℕ SurfaceError) (new : SourceValue ChosenWidths) : Type 0 where
+pub record DrawsAs (source : SurfaceValue ChosenWidths) (r : Region)
+    (old : SourceValue ChosenWidths) (result : Result ℕ SurfaceError)
+    (new : SourceValue ChosenWidths) : Type 0 where
   pub drawn : IsDrawn columns_by (trimmed old.surface) source r result new.surface
   -- all but the rows is as before
   pub restores :

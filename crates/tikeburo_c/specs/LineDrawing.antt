@@ -1,5 +1,5 @@
 -- Lines drawn on rows of surfaces.
-use Rattle.std.specs.Prelude.{◌≡◌, ◌⊎◌, ℕ, ◌<◌, ◌≤◌, Err, OnOk, Option, Some, None, List, [], ◌∷◌, slice_get}
+use Rattle.std.specs.Prelude.{◌≡◌, ◌⊎◌, ℕ, ◌<◌, ◌≤◌, true, Err, OnOk, Option, Some, None, List, [], ◌∷◌, slice_get}
 use Rattle.termwiz_cell.specs.CellValue.{CellValue}
 use Rattle.termwiz_cell.specs.ChangeValue.{ChangeValue}
 use Rattle.termwiz_line.specs.LineValue.{LineValue}
@@ -37,7 +37,7 @@ HasLine s row cells rows = HaveRow rows (screen_of s).rows s.height row (row_of 
 -- a line is drawn on a row
 pub record DrawsLineAs (row : ℕ) (cells : List CellValue) (old : SourceValue ChosenWidths)
     (outcome : Outcome) (new : SourceValue ChosenWidths) : Type 0 where
-  pub drawn : AddsChanges (line_drawing old.surface row cells) old outcome new
+  pub drawn : AddsChanges true (line_drawing old.surface row cells) old outcome new
   -- all but the rows is as before
   pub restores :
       OnOk outcome

@@ -13,7 +13,7 @@ use Rattle.termwiz_cell.specs.Link.{Link}
 use Rattle.termwiz_cell.specs.declared.change.Position.{Position}
 use Rattle.termwiz_cell.specs.declared.change.Position.TheVariants.{Absolute, EndRelative, Relative}
 use Rattle.termwiz_share.specs.Source.{SourceValue}
-use Rattle.tikeburo_c.specs.Changes.{AddsChanges, AddsListUnlogged}
+use Rattle.tikeburo_c.specs.Changes.{AddsChanges}
 use Rattle.tikeburo_c.specs.Fields.{attributes_in, color_in}
 use Rattle.tikeburo_c.specs.Numbers.{blink_in, intensity_in, line_in, numbered, shape_in, underline_in}
 use Rattle.tikeburo_c.specs.Outcomes.{Outcome}
@@ -177,27 +177,15 @@ listed_in [] [] = Ok []
 listed_in [] (b ∷ bs) = Err Range
 listed_in (f ∷ fs) texts = first_in f texts >>= λ x. listed_in fs x.1 >>= λ cs. Ok (x.0 ∷ cs)
 
--- the listed changes are added, or the list is refused by its first fault, unless memory was
--- refused
+-- the listed changes are added, and logged or not, or the list is refused by its first fault,
+-- unless memory was refused
 abbrev pub AddsListed :
-    List ChangeFields → List ℕ → SourceValue ChosenWidths → Outcome → SourceValue ChosenWidths →
-    Type 0
-AddsListed fs texts = of (listed_in fs texts)
+    Bool → List ChangeFields → List ℕ → SourceValue ChosenWidths → Outcome →
+    SourceValue ChosenWidths → Type 0
+AddsListed is_logged fs texts = of (listed_in fs texts)
   where
     of :
         Result (List ChangeValue) Failure → SourceValue ChosenWidths → Outcome →
         SourceValue ChosenWidths → Type 0
-    of (Ok cs) = OrNoMemory (AddsChanges cs)
-    of (Err failure) = OrNoMemory (Refused failure)
-
--- or they are made without being logged
-abbrev pub AddsListedUnlogged :
-    List ChangeFields → List ℕ → SourceValue ChosenWidths → Outcome → SourceValue ChosenWidths →
-    Type 0
-AddsListedUnlogged fs texts = of (listed_in fs texts)
-  where
-    of :
-        Result (List ChangeValue) Failure → SourceValue ChosenWidths → Outcome →
-        SourceValue ChosenWidths → Type 0
-    of (Ok cs) = OrNoMemory (AddsListUnlogged cs)
+    of (Ok cs) = OrNoMemory (AddsChanges is_logged cs)
     of (Err failure) = OrNoMemory (Refused failure)

@@ -55,7 +55,8 @@ OnClient P None outcome new = Refused NoHandle None outcome new
 
 -- the call did this to the client that the handle has, and to what else it writes
 abbrev pub OnClientAnd :
-    {A : Type 0} → (ClientValue ChosenWidths × A → Outcome → ClientValue ChosenWidths × A → Type 0) →
+    {A : Type 0} →
+    (ClientValue ChosenWidths × A → Outcome → ClientValue ChosenWidths × A → Type 0) →
     Option Kept × A → Outcome → Option Kept × A → Type 0
 OnClientAnd P (Some (Client c), old) outcome (Some (Client d), new) = P (c, old) outcome (d, new)
 OnClientAnd P (Some (Client c), old) outcome _ = ⊥

@@ -2,11 +2,10 @@
 use Rattle.std.specs.Prelude.{◌≡◌, ℕ, Bool, true, false, Result, Ok, Err, Option, Some, None, List}
 use Rattle.termwiz_cell.specs.ChangeValue.{ChangeValue}
 use Rattle.termwiz_line.specs.LineValue.{LineValue}
-use Rattle.termwiz_share.specs.Source.{SourceValue}
 use Rattle.termwiz_surface.specs.ScrolledOff.{BeginsRows, ScrollsOff, ShownRow, rows_scrolled_off}
 use Rattle.termwiz_surface.specs.Surface.{SurfaceValue, kept_of, screen_of}
 use Rattle.tikeburo_c.specs.Kept.{lines_of}
-use Rattle.tikeburo_c.specs.Lists.{AddsListed, AddsListedUnlogged, listed_in}
+use Rattle.tikeburo_c.specs.Lists.{listed_in}
 use Rattle.tikeburo_c.specs.Outcomes.{Outcome}
 use Rattle.tikeburo_c.specs.Results.{OfKind, OnLines, Refused}
 use Rattle.tikeburo_c.specs.Widths.{columns_by}
@@ -74,10 +73,3 @@ abbrev pub OnLinesIf :
     Option Kept → Type 0
 OnLinesIf true P old outcome new = OnLines P old outcome new
 OnLinesIf false P old outcome new = new ≡ old
-
--- the listed changes are made, and logged or not
-abbrev pub AddsListedAs :
-    Bool → List ChangeFields → List ℕ → SourceValue ChosenWidths → Outcome →
-    SourceValue ChosenWidths → Type 0
-AddsListedAs true = AddsListed
-AddsListedAs false = AddsListedUnlogged

@@ -2,13 +2,13 @@
 //! which are kept as lines or not.
 ghost use Rattle.std.specs.Prelude.{IsTrue};
 ghost use Rattle.tikeburo_c.specs.Handles.{kept_of};
-ghost use Rattle.tikeburo_c.specs.Lists.{AddsListed, AddsListedUnlogged};
+ghost use Rattle.tikeburo_c.specs.Lists.{AddsListed};
 ghost use Rattle.tikeburo_c.specs.Outcomes.{Reports};
 ghost use Rattle.tikeburo_c.specs.Results.{OnLines, OnSurface};
-ghost use Rattle.tikeburo_c.specs.Scrolling.{AddsListedAs, AddsListedRows, AddsRowsOf, OnLinesIf};
-ghost use Rattle.tikeburo_c.specs.Scrolling.{WithLines, WithLinesIf};
+ghost use Rattle.tikeburo_c.specs.Scrolling.{AddsListedRows, AddsRowsOf, OnLinesIf, WithLines};
+ghost use Rattle.tikeburo_c.specs.Scrolling.{WithLinesIf};
 
-use crate::changes::{add_list, add_list_unlogged};
+use crate::changes::add_list;
 use crate::failure::{Failure, status};
 use crate::handle::Handle;
 use crate::kept::Kept;
@@ -17,39 +17,9 @@ use crate::unlogged::listed_lent_in;
 use crate::widths::ChosenWidths;
 use std::alloc::Global;
 use termwiz_share::Source;
-use termwiz_surface::{LineSink, NoScrollback};
+use termwiz_surface::{ChangeList, LentChanges, LineSink, NoScrollback};
 
 fn add_listed<L: LineSink>(
-    alloc: Global,
-    surface: &mut Source<ChosenWidths>,
-    list: &[ChangeFields],
-    texts: &[u8],
-    lines: &mut L,
-) -> Result<(), Failure>
-    ensures adds { AddsListed list.now texts.now surface.old result surface.new }
-    ensures lines { IsTrue L.KEEPS → AddsListedRows list.now texts.now surface.old.surface
-        (L.lines_of lines.old) result (L.lines_of lines.new) }
-{
-    let changes = listed_in(alloc, list, texts)?;
-    add_list(surface, changes, lines)
-}
-
-fn add_listed_unlogged<L: LineSink>(
-    alloc: Global,
-    surface: &mut Source<ChosenWidths>,
-    list: &[ChangeFields],
-    texts: &[u8],
-    lines: &mut L,
-) -> Result<(), Failure>
-    ensures adds { AddsListedUnlogged list.now texts.now surface.old result surface.new }
-    ensures lines { IsTrue L.KEEPS → AddsListedRows list.now texts.now surface.old.surface
-        (L.lines_of lines.old) result (L.lines_of lines.new) }
-{
-    let changes = listed_lent_in(alloc, list, texts)?;
-    add_list_unlogged(surface, &changes, lines)
-}
-
-fn add_logged_or_not<L: LineSink>(
     alloc: Global,
     surface: &mut Source<ChosenWidths>,
     is_logged: bool,
@@ -57,15 +27,16 @@ fn add_logged_or_not<L: LineSink>(
     texts: &[u8],
     lines: &mut L,
 ) -> Result<(), Failure>
-    ensures adds { AddsListedAs is_logged list.now texts.now surface.old result surface.new }
+    ensures adds { AddsListed is_logged list.now texts.now surface.old result surface.new }
     ensures lines { IsTrue L.KEEPS → AddsListedRows list.now texts.now surface.old.surface
         (L.lines_of lines.old) result (L.lines_of lines.new) }
 {
     if is_logged {
-        add_listed(alloc, surface, list, texts, lines)
-    } else {
-        add_listed_unlogged(alloc, surface, list, texts, lines)
+        let changes = listed_in(alloc, list, texts)?;
+        return add_list(surface, ChangeList::Owned(changes), lines);
     }
+    let changes = listed_lent_in(alloc, list, texts)?;
+    add_list(surface, ChangeList::Unlogged(LentChanges(&changes)), lines)
 }
 
 // Applies the listed changes to the surface that the handle has. It is no closure that takes the
@@ -78,7 +49,7 @@ fn add_on<L: LineSink>(
     texts: &[u8],
     lines: &mut L,
 ) -> Result<(), Failure>
-    ensures adds { OnSurface (AddsListedAs is_logged list.now texts.now)
+    ensures adds { OnSurface (AddsListed is_logged list.now texts.now)
         (kept_of handle.old) result (kept_of handle.new) }
     ensures lines { IsTrue L.KEEPS → AddsRowsOf list.now texts.now (kept_of handle.old)
         (L.lines_of lines.old) result (L.lines_of lines.new) }
@@ -87,9 +58,7 @@ fn add_on<L: LineSink>(
         return Err(Failure::NoHandle);
     };
     let outcome = match &mut *kept {
-        Kept::Surface(surface) => {
-            add_logged_or_not(alloc, surface, is_logged, list, texts, lines)
-        }
+        Kept::Surface(surface) => add_listed(alloc, surface, is_logged, list, texts, lines),
         Kept::Viewer(_) | Kept::Client(_) | Kept::Lines(_) => Err(Failure::WrongKind),
     };
     handle.put(alloc, kept);
@@ -107,7 +76,7 @@ fn add_keeping(
     lines: &mut Handle,
 ) -> Result<(), Failure>
     ensures adds { WithLines (kept_of lines.old)
-        (OnSurface (AddsListedAs is_logged list.now texts.now))
+        (OnSurface (AddsListed is_logged list.now texts.now))
         (kept_of handle.old) result (kept_of handle.new) }
     ensures lines { OnLines (AddsRowsOf list.now texts.now (kept_of handle.old))
         (kept_of lines.old) result (kept_of lines.new) }
@@ -139,7 +108,7 @@ pub extern "C" fn tk_add_list_distinct(
     lines: &mut Handle,
 ) -> i32
     ensures adds { Reports result (λ outcome. WithLinesIf keeps_lines (kept_of lines.old)
-        (OnSurface (AddsListedAs is_logged list.now texts.now))
+        (OnSurface (AddsListed is_logged list.now texts.now))
         (kept_of handle.old) outcome (kept_of handle.new)) }
     ensures lines { Reports result (λ outcome. OnLinesIf keeps_lines
         (AddsRowsOf list.now texts.now (kept_of handle.old))

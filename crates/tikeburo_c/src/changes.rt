@@ -1,8 +1,7 @@
 //! Changes of surfaces.
-ghost use Rattle.std.specs.Prelude.{IsTrue, map};
-ghost use Rattle.termwiz_cell.specs.ChangeValue.{change_value};
-ghost use Rattle.termwiz_surface.specs.Unlogged.{lent_value};
-ghost use Rattle.tikeburo_c.specs.Changes.{AddsBytes, AddsChanges, AddsListUnlogged, IsOnlyList};
+ghost use Rattle.std.specs.Prelude.{IsTrue};
+ghost use Rattle.termwiz_surface.specs.ChangeLists.{change_list, is_logged};
+ghost use Rattle.tikeburo_c.specs.Changes.{AddsBytes, AddsChanges, IsOnlyList};
 ghost use Rattle.tikeburo_c.specs.Outcomes.{Reports};
 ghost use Rattle.tikeburo_c.specs.Handles.{kept_of};
 ghost use Rattle.tikeburo_c.specs.Results.{OnSurface};
@@ -15,7 +14,7 @@ use crate::handle::Handle;
 use crate::widths::ChosenWidths;
 use std::alloc::Global;
 use termwiz_share::Source;
-use termwiz_surface::{Change, ChangeList, LentChange, LentChanges, LineSink, NoScrollback};
+use termwiz_surface::{Change, ChangeList, LineSink, NoScrollback};
 use termwiz_wire::decode_changes;
 
 // The list of changes that the bytes encode, with nothing after it.
@@ -29,35 +28,20 @@ fn only_changes(alloc: Global, widths: ChosenWidths, bytes: &[u8]) -> Result<Vec
     Ok(changes)
 }
 
-/// Adds changes to a surface, which logs them. The rows that they scroll off the top go to the
-/// lines that are kept.
+/// Applies a list of changes to a surface, which logs them or not, as the list says. The rows that
+/// they scroll off the top go to the lines that are kept.
 pub(crate) fn add_list<L: LineSink>(
     surface: &mut Source<ChosenWidths>,
-    changes: Vec<Change>,
+    list: ChangeList<'_>,
     lines: &mut L,
 ) -> Result<(), Failure>
-    ensures adds { AddsChanges (map change_value changes.items) surface.old result surface.new }
+    ensures adds { AddsChanges (is_logged list.entry) (change_list list.entry)
+        surface.old result surface.new }
     ensures lines { IsTrue L.KEEPS → AddsRows surface.old.surface.width
-        (rows_off surface.old.surface (map change_value changes.items))
+        (rows_off surface.old.surface (change_list list.entry))
         (L.lines_of lines.old) result (L.lines_of lines.new) }
 {
-    surface.add(ChangeList::Owned(changes), lines)?;
-    Ok(())
-}
-
-/// Applies changes to a surface, which doesn't log them. The rows that they scroll off the top go
-/// to the lines that are kept.
-pub(crate) fn add_list_unlogged<L: LineSink>(
-    surface: &mut Source<ChosenWidths>,
-    changes: &[LentChange<'_>],
-    lines: &mut L,
-) -> Result<(), Failure>
-    ensures adds { AddsListUnlogged (map lent_value changes.now) surface.old result surface.new }
-    ensures lines { IsTrue L.KEEPS → AddsRows surface.old.surface.width
-        (rows_off surface.old.surface (map lent_value changes.now))
-        (L.lines_of lines.old) result (L.lines_of lines.new) }
-{
-    surface.add(ChangeList::Unlogged(LentChanges(changes)), lines)?;
+    surface.add(list, lines)?;
     Ok(())
 }
 
@@ -65,7 +49,7 @@ fn add_bytes(alloc: Global, surface: &mut Source<ChosenWidths>, bytes: &[u8]) ->
     ensures { AddsBytes bytes.now surface.old result surface.new }
 {
     let changes = only_changes(alloc, surface.surface().widths(), bytes)?;
-    add_list(surface, changes, &mut NoScrollback)
+    add_list(surface, ChangeList::Owned(changes), &mut NoScrollback)
 }
 
 /// Applies the list of changes that these bytes encode.

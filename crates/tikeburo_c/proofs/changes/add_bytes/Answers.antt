@@ -1,5 +1,5 @@
 use Rattle.std.proofs.Common.{◌≡◌, inl, inr, List, ℕ, refl, ap, ◌∙◌, subst}
-use Rattle.std.specs.Prelude.{Ok, Err, map}
+use Rattle.std.specs.Prelude.{true, Ok, Err, map}
 use Rattle.std.specs.declared.alloc.Global.{Global}
 use Rattle.std.specs.declared.vec.Vec.{Vec}
 use Rattle.termwiz_cell.specs.ChangeValue.{ChangeValue, change_value}
@@ -20,9 +20,9 @@ none_added bytes s f only = elim only [
   | inr wrong ↦ record { adds = λ cs are e. absurd (wrong.1 cs are e); others = inl (ap (λ (g : Failure). Err g) wrong.0, refl) }
 ]
 
-list_added : (bytes : List ℕ) (s : SourceValue ChosenWidths) (cs : Vec Change Global) (outcome : Outcome) (t : SourceValue ChosenWidths) → IsOnlyList (columns_by s.surface.widths) bytes (Ok cs) → AddsChanges (map change_value cs.items) s outcome t → AddsBytes bytes s outcome t
+list_added : (bytes : List ℕ) (s : SourceValue ChosenWidths) (cs : Vec Change Global) (outcome : Outcome) (t : SourceValue ChosenWidths) → IsOnlyList (columns_by s.surface.widths) bytes (Ok cs) → AddsChanges true (map change_value cs.items) s outcome t → AddsBytes bytes s outcome t
 list_added bytes s cs outcome t only added = record {
-  adds = λ ds are e. inr (subst (λ (es : List ChangeValue). AddsChanges es s outcome t) (only.1 ds are e) added);
+  adds = λ ds are e. inr (subst (λ (es : List ChangeValue). AddsChanges true es s outcome t) (only.1 ds are e) added);
   others = inr (inr (map change_value cs.items, only.0, added));
 }
 

@@ -64,7 +64,7 @@ NOTIONS = {
         ("forms", ["Sent.IsSent"]),
         ("decoding", ["Answers.answer_at"]),
         ("client", ["Client.shown_by", "Client.fits"]),
-        ("taken", ["Client.taken", "Client.has_other_size"]),
+        ("taken", ["Client.shown_after", "Client.has_other_size"]),
         ("source", ["Source.SourceValue", "Serving.Serves"]),
     ],
 }

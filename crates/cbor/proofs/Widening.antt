@@ -4,7 +4,7 @@ use Rattle.std.specs.Int.{Width, w16, w32, w64, byte_len, from_be_bytes}
 use Rattle.std.proofs.lemmas.Bool.{cases_lt, le-ltb, lt-ltb}
 use Rattle.cbor.specs.declared.error.FaultKind.{FaultKind}
 use Rattle.cbor.specs.declared.error.FaultKind.TheVariants.{Truncated, Limit}
-use Rattle.cbor.specs.Decoding.{◌>>=◌, allowed, placed, lack, first_in, byte_in, short_in, wide_in, argument_in, head_in, limited_in, signed_in, boolean_in, null_in, utf8_in, text_in, list_in, array_of_in, kind_in, unsigned_at, array_at, list_at, below_at, signed_at, boolean_at, null_at, text_at, array_of_at, kind_at}
+use Rattle.cbor.specs.Decoding.{◌>>=◌, allowed, fault_placed, lack, first_in, byte_in, short_in, wide_argument_in, argument_in, head_in, limited_in, signed_in, boolean_in, null_in, utf8_in, text_bytes_in, list_in, array_of_in, kind_in, unsigned_at, array_at, list_at, below_at, signed_at, boolean_at, null_at, text_at, array_of_at, kind_at}
 use Rattle.cbor.specs.Prefixes.{itself, fault, FailsBy}
 
 -- what decoding gave, and what it gives with more room: but for `Limit` it is the same, but for the place
@@ -71,7 +71,7 @@ short_widens : (bytes : List ℕ) → Widens itself (λ room. short_in room byte
 unfolding short_in
 short_widens bytes = steps _ (byte_widens bytes) (λ b. either (ltb b.0 24) _ _ wrong gives)
 
-wide_widens : (w : Width) (least : ℕ) (bytes : List ℕ) → Widens itself (λ room. wide_in room w least bytes)
+wide_widens : (w : Width) (least : ℕ) (bytes : List ℕ) → Widens itself (λ room. wide_argument_in room w least bytes)
 wide_widens w least bytes = either (ltb (length bytes) (byte_len w)) _ _ (lack_widens (byte_len w) bytes) (either (ltb (from_be_bytes w (take (byte_len w) bytes)) least) _ _ wrong gives)
 
 argument_widens : (info : ℕ) (bytes : List ℕ) → Widens itself (λ room. argument_in room info bytes)
@@ -102,8 +102,8 @@ known_wider : {Z : Type 0} (r : Result Z FaultKind) → Wider itself r r
 known_wider (Ok z) = refl
 known_wider (Err e) = inr refl
 
-text_in_widens : (bytes : List ℕ) → Widens itself (λ room. text_in room bytes)
-unfolding text_in
+text_in_widens : (bytes : List ℕ) → Widens itself (λ room. text_bytes_in room bytes)
+unfolding text_bytes_in
 text_in_widens bytes = steps _ (head_widens 3 bytes) (λ n. either (ltb (length n.1) n.0) _ _ (lack_widens n.0 n.1) (record { wider = λ small large le. known_wider (utf8_in (take n.0 n.1) >>= λ t. Ok (t, drop n.0 n.1)) }))
 
 -- the items of a list that fit a limit fit a larger one
@@ -129,16 +129,16 @@ kind_in_widens bytes = steps _ (first_widens bytes) (λ b. gives)
 
 -- ---- an item at its place
 
-placed_fails : {Y : Type 0} (a : ℕ) (f : FaultKind) (r : Result Y FaultKind) → FailsBy itself f r → FailsBy fault f (placed a r)
+placed_fails : {Y : Type 0} (a : ℕ) (f : FaultKind) (r : Result Y FaultKind) → FailsBy itself f r → FailsBy fault f (fault_placed a r)
 placed_fails a f (Ok y) fails = fails
 placed_fails a f (Err e) fails = fails
 
-placed_wider : {Y : Type 0} (a b : ℕ) (r later : Result Y FaultKind) → Wider itself r later → Wider fault (placed a r) (placed b later)
-placed_wider a b (Ok y) later wider = ap (placed b) wider
+placed_wider : {Y : Type 0} (a b : ℕ) (r later : Result Y FaultKind) → Wider itself r later → Wider fault (fault_placed a r) (fault_placed b later)
+placed_wider a b (Ok y) later wider = ap (fault_placed b) wider
 placed_wider a b (Err e) later (inl limit) = inl limit
 placed_wider a b (Err e) later (inr fails) = inr (placed_fails b e later fails)
 
-at_place : {Y : Type 0} {read : ℕ → Result Y FaultKind} (bytes : List ℕ) → Widens itself read → Widens fault (λ room. placed (allowed room bytes) (read room))
+at_place : {Y : Type 0} {read : ℕ → Result Y FaultKind} (bytes : List ℕ) → Widens itself read → Widens fault (λ room. fault_placed (allowed room bytes) (read room))
 at_place {read = read} bytes widens = record {
   wider = λ small large le. placed_wider (allowed small bytes) (allowed large bytes) (read small) (read large) (widens.wider small large le);
 }

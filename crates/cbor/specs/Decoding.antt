@@ -67,9 +67,9 @@ abbrev pub ok : {A E : Type 0} → A → List ℕ → Result (A × List ℕ) E
 ok x rest = Ok (x, rest)
 
 -- the fault of an item stands where it begins
-abbrev pub placed : {Y : Type 0} → ℕ → Result Y FaultKind → Result Y Stop
-placed left (Ok y) = Ok y
-placed left (Err f) = Err (record { fault = f; left = left })
+abbrev pub fault_placed : {Y : Type 0} → ℕ → Result Y FaultKind → Result Y Stop
+fault_placed left (Ok y) = Ok y
+fault_placed left (Err f) = Err (record { fault = f; left = left })
 
 -- the fault of bytes that are fewer than this
 abbrev pub lack : ℕ → ℕ → List ℕ → FaultKind
@@ -93,8 +93,8 @@ short_in room bytes = do
   if nat_lt b.0 24 then Err Range else Ok b
 
 -- an argument of this width that would not fit the next smaller form
-abbrev pub wide_in : ℕ → Width → ℕ → List ℕ → Result (ℕ × List ℕ) FaultKind
-wide_in room w least bytes =
+abbrev pub wide_argument_in : ℕ → Width → ℕ → List ℕ → Result (ℕ × List ℕ) FaultKind
+wide_argument_in room w least bytes =
     if nat_lt (length bytes) (byte_len w) then Err (lack room (byte_len w) bytes)
     else if nat_lt (from_be_bytes w (take (byte_len w) bytes)) least then Err Range
     else Ok (from_be_bytes w (take (byte_len w) bytes), drop (byte_len w) bytes)
@@ -103,9 +103,9 @@ wide_in room w least bytes =
 unfoldable pub argument_in : ℕ → ℕ → List ℕ → Result (ℕ × List ℕ) FaultKind
 argument_in room info rest =
     if info == 24 then short_in room rest
-    else if info == 25 then wide_in room w16 (2 ^ 8) rest
-    else if info == 26 then wide_in room w32 (2 ^ 16) rest
-    else if info == 27 then wide_in room w64 (2 ^ 32) rest
+    else if info == 25 then wide_argument_in room w16 (2 ^ 8) rest
+    else if info == 26 then wide_argument_in room w32 (2 ^ 16) rest
+    else if info == 27 then wide_argument_in room w64 (2 ^ 32) rest
     else if nat_lt info 24 then Ok (info, rest)
     else Err faults.Type
 
@@ -142,8 +142,8 @@ null_in room bytes = do
 unfoldable pub utf8_in : List ℕ → Result (List ℕ) FaultKind
 utf8_in bytes = if is_utf8 bytes then Ok bytes else Err Utf8
 
-unfoldable pub text_in : ℕ → List ℕ → Result (List ℕ × List ℕ) FaultKind
-text_in room bytes = do
+unfoldable pub text_bytes_in : ℕ → List ℕ → Result (List ℕ × List ℕ) FaultKind
+text_bytes_in room bytes = do
   n ← head_in room 3 bytes
   if nat_lt (length n.1) n.0 then Err (lack room n.0 n.1)
       else (utf8_in (take n.0 n.1) >>= λ t. Ok (t, drop n.0 n.1))
@@ -179,34 +179,34 @@ kind_in room bytes = first_in room bytes >>= λ b. Ok (kind_of b)
 -- ---- an item, and the place of its fault
 
 unfoldable pub unsigned_at : ℕ → List ℕ → Result (ℕ × List ℕ) Stop
-unsigned_at room bytes = placed (allowed room bytes) (head_in room 0 bytes)
+unsigned_at room bytes = fault_placed (allowed room bytes) (head_in room 0 bytes)
 
 -- how many items follow
 unfoldable pub array_at : ℕ → List ℕ → Result (ℕ × List ℕ) Stop
-array_at room bytes = placed (allowed room bytes) (head_in room 4 bytes)
+array_at room bytes = fault_placed (allowed room bytes) (head_in room 4 bytes)
 
 -- how many items follow, each of one byte at least
 unfoldable pub list_at : ℕ → List ℕ → Result (ℕ × List ℕ) Stop
-list_at room bytes = placed (allowed room bytes) (list_in room bytes)
+list_at room bytes = fault_placed (allowed room bytes) (list_in room bytes)
 
 -- a number below the limit
 unfoldable pub below_at : ℕ → ℕ → List ℕ → Result (ℕ × List ℕ) Stop
-below_at room limit bytes = placed (allowed room bytes) (limited_in room 0 limit bytes)
+below_at room limit bytes = fault_placed (allowed room bytes) (limited_in room 0 limit bytes)
 
 unfoldable pub signed_at : ℕ → List ℕ → Result (ℤ × List ℕ) Stop
-signed_at room bytes = placed (allowed room bytes) (signed_in room bytes)
+signed_at room bytes = fault_placed (allowed room bytes) (signed_in room bytes)
 
 unfoldable pub boolean_at : ℕ → List ℕ → Result (Bool × List ℕ) Stop
-boolean_at room bytes = placed (allowed room bytes) (boolean_in room bytes)
+boolean_at room bytes = fault_placed (allowed room bytes) (boolean_in room bytes)
 
 unfoldable pub null_at : ℕ → List ℕ → Result (List ℕ) Stop
-null_at room bytes = placed (allowed room bytes) (null_in room bytes)
+null_at room bytes = fault_placed (allowed room bytes) (null_in room bytes)
 
 unfoldable pub text_at : ℕ → List ℕ → Result (List ℕ × List ℕ) Stop
-text_at room bytes = placed (allowed room bytes) (text_in room bytes)
+text_at room bytes = fault_placed (allowed room bytes) (text_bytes_in room bytes)
 
 unfoldable pub array_of_at : ℕ → ℕ → List ℕ → Result (List ℕ) Stop
-array_of_at room count bytes = placed (allowed room bytes) (array_of_in room count bytes)
+array_of_at room count bytes = fault_placed (allowed room bytes) (array_of_in room count bytes)
 
 unfoldable pub kind_at : ℕ → List ℕ → Result Kind Stop
-kind_at room bytes = placed (allowed room bytes) (kind_in room bytes)
+kind_at room bytes = fault_placed (allowed room bytes) (kind_in room bytes)

@@ -9,8 +9,8 @@ abbrev pub left : {A : Type 0} → A × List ℕ → List ℕ → A × List ℕ
 left x more = (x.0, x.1 ++ more)
 
 -- where nothing is decoded but a head, it left these
-abbrev pub behind : List ℕ → List ℕ → List ℕ
-behind rest more = rest ++ more
+abbrev pub rest_with : List ℕ → List ℕ → List ℕ
+rest_with rest more = rest ++ more
 
 -- what was read without taking bytes stays, whatever bytes follow
 abbrev pub seen : {A : Type 0} → A → List ℕ → A
@@ -26,10 +26,10 @@ fault s = s.fault
 
 -- what decoding gave, and what it gives with more bytes: but for `Truncated` it is the same, at the
 -- same place
-abbrev pub Stays :
+abbrev pub StaysDecoded :
     {Y E : Type 0} → (E → FaultKind) → (Y → List ℕ → Y) → List ℕ → Result Y E → Result Y E → Type 0
-Stays fault grow more (Ok y) later = later ≡ Ok (grow y more)
-Stays fault grow more (Err e) later = (fault e ≡ Truncated) ⊎ (later ≡ Err e)
+StaysDecoded fault grow more (Ok y) later = later ≡ Ok (grow y more)
+StaysDecoded fault grow more (Err e) later = (fault e ≡ Truncated) ⊎ (later ≡ Err e)
 
 -- it is a value, or a fault other than `Truncated`
 abbrev pub Decides : {Y E : Type 0} → (E → FaultKind) → Result Y E → Type 0
@@ -38,11 +38,11 @@ Decides fault (Err e) = fault e ≢ Truncated
 
 -- a decoding from left to right: a value or a fault stays as it is, whatever follows within the
 -- limit, and at the limit there is one
-pub record Reads {Y E : Type 0} (fault : E → FaultKind) (grow : Y → List ℕ → Y)
+pub record DecodesPrefixes {Y E : Type 0} (fault : E → FaultKind) (grow : Y → List ℕ → Y)
     (read : ℕ → List ℕ → Result Y E) : Type 0 where
   pub stays :
       (room : ℕ) (bytes more : List ℕ) →
-      Stays fault grow more (read (length more + room) bytes) (read room (bytes ++ more))
+      StaysDecoded fault grow more (read (length more + room) bytes) (read room (bytes ++ more))
   pub ends : (bytes : List ℕ) → Decides fault (read 0 bytes)
 
 -- decoding fails with this fault

@@ -3,7 +3,7 @@ ghost use Rattle.std.specs.Prelude.{ℕ, ℤ, Bool, List, ◌<◌, ◌^◌};
 ghost use Rattle.cbor.specs.Encoding.{IsSigned, IsText, array, boolean, signed, text, unsigned};
 ghost use Rattle.cbor.specs.Decoding.{array_at, array_of_at, below_at, boolean_at, kind_at};
 ghost use Rattle.cbor.specs.Decoding.{list_at, null_at, signed_at, text_at, unsigned_at};
-ghost use Rattle.cbor.specs.Prefixes.{BeginningsOf, Reads, behind, fault, left, seen};
+ghost use Rattle.cbor.specs.Prefixes.{BeginningsOf, DecodesPrefixes, fault, left, rest_with, seen};
 
 /// Each proper prefix of an encoded item is `Truncated`, where the item is within the limit.
 pub fn beginnings()
@@ -17,15 +17,16 @@ pub fn beginnings()
 /// A value or a fault other than `Truncated` stays the same, whatever bytes follow within the
 /// limit, and no bytes that reach the limit are `Truncated`.
 pub fn decided()
-    ensures unsigned { Reads fault left unsigned_at }
-    ensures below { (limit : ℕ) → Reads fault left (λ room bytes. below_at room limit bytes) }
-    ensures signed { Reads fault left signed_at }
-    ensures boolean { Reads fault left boolean_at }
-    ensures null { Reads fault behind null_at }
-    ensures text { Reads fault left text_at }
-    ensures array { Reads fault left array_at }
-    ensures list { Reads fault left list_at }
+    ensures unsigned { DecodesPrefixes fault left unsigned_at }
+    ensures below { (limit : ℕ) →
+        DecodesPrefixes fault left (λ room bytes. below_at room limit bytes) }
+    ensures signed { DecodesPrefixes fault left signed_at }
+    ensures boolean { DecodesPrefixes fault left boolean_at }
+    ensures null { DecodesPrefixes fault rest_with null_at }
+    ensures text { DecodesPrefixes fault left text_at }
+    ensures array { DecodesPrefixes fault left array_at }
+    ensures list { DecodesPrefixes fault left list_at }
     ensures array_of { (count : ℕ) →
-        Reads fault behind (λ room bytes. array_of_at room count bytes) }
-    ensures kind { Reads fault seen kind_at }
+        DecodesPrefixes fault rest_with (λ room bytes. array_of_at room count bytes) }
+    ensures kind { DecodesPrefixes fault seen kind_at }
 {}

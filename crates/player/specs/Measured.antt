@@ -4,7 +4,7 @@ use Rattle.termwiz_cell.specs.Width.{unicode_columns}
 use Rattle.player.specs.declared.surfaces.measure.Measure.{Measure}
 use Rattle.player.specs.declared.surfaces.measure.Measure.TheVariants.{Unicode, One, Wide}
 
-unfoldable pub columns_by : Measure → List ℕ → ℕ
-columns_by Unicode text = unicode_columns text
-columns_by One _ = 1
-columns_by Wide text = if bytes_eq text (32 ∷ []) then 1 else 2
+unfoldable pub columns_of_measure : Measure → List ℕ → ℕ
+columns_of_measure Unicode text = unicode_columns text
+columns_of_measure One _ = 1
+columns_of_measure Wide text = if bytes_eq text (32 ∷ []) then 1 else 2

@@ -10,7 +10,7 @@ use Rattle.std.proofs.lemmas.List.Concat.{flat_map-append}
 use Rattle.sessions.specs.Lines.{LineSays, Say, LastLine, SayFirst, NoMore}
 use Rattle.sessions.specs.Answering.{AnswersRequest, AnswersAll, AnswersFirst, DoesLine, Ended, Next, SendsLine, WritesAnswers}
 use Rattle.sessions.specs.Requests.{MaySay, SaysRequest}
-use Rattle.sessions.specs.Sending.{Sender, bytes_of, first_source, stream_sent}
+use Rattle.sessions.specs.Sending.{Sender, bytes_sent, first_source, stream_sent}
 use Rattle.sessions.specs.declared.send.runs.Request.{Request}
 use Rattle.sessions.specs.declared.send.runs.SendOutcome.{SendOutcome}
 use Rattle.sessions.specs.Writing.{AppendsSome}
@@ -72,11 +72,11 @@ says_first_none None = tt
 says_first_none (Some xs) = NoMore xs
 
 -- what a line asks for is done
-pub line_done : (line : List ℕ) (s t : Sender) (n k : ℕ) (request : Request) (outcome : SendOutcome) (holds : List ℕ → Type 0) → MaySay line (Some request) → AnswersRequest s n request outcome t k → holds (bytes_of outcome) → SendsLine line s n t k holds
+pub line_done : (line : List ℕ) (s t : Sender) (n k : ℕ) (request : Request) (outcome : SendOutcome) (holds : List ℕ → Type 0) → MaySay line (Some request) → AnswersRequest s n request outcome t k → holds (bytes_sent outcome) → SendsLine line s n t k holds
 line_done line s t n k request outcome holds says answers written = record {
   outcomes = outcome ∷ [];
   does = (says.0, (request, says.1, answers));
-  written = subst holds (sym (append-nil (bytes_of outcome))) written;
+  written = subst holds (sym (append-nil (bytes_sent outcome))) written;
 }
 
 module _ (source w h : ℕ) (input : Known) where
@@ -165,7 +165,7 @@ module _ (source w h : ℕ) (input : Known) where
         outcomes = run.outcomes ++ sends.outcomes;
         done = done_on run.outcomes rest left line s t n k sends.outcomes run.done come sends.does;
         written =
-            subst (λ (bytes : List ℕ). Appends old newer bytes) (sym (flat_map-append bytes_of run.outcomes sends.outcomes))
+            subst (λ (bytes : List ℕ). Appends old newer bytes) (sym (flat_map-append bytes_sent run.outcomes sends.outcomes))
             (Appends-trans old new newer (stream_sent run.outcomes) (stream_sent sends.outcomes) run.written sends.written);
       }
 
@@ -173,7 +173,7 @@ module _ (source w h : ℕ) (input : Known) where
       pub so_far_cut : SendsLine line s n t k (AppendsSome new newer) → AnswersFirst source w h input (AppendsSome old newer)
       so_far_cut sends =
           done_first (run.outcomes ++ sends.outcomes) left t k (AppendsSome old newer) (done_on run.outcomes rest left line s t n k sends.outcomes run.done come sends.does)
-          (subst (λ (bytes : List ℕ). AppendsSome old newer bytes) (sym (flat_map-append bytes_of run.outcomes sends.outcomes))
+          (subst (λ (bytes : List ℕ). AppendsSome old newer bytes) (sym (flat_map-append bytes_sent run.outcomes sends.outcomes))
           (some_next old new newer (stream_sent run.outcomes) (stream_sent sends.outcomes) run.written sends.written))
 
     module _ (rest : Known) (s : Sender) (n : ℕ) (new : Known) (run : IsSoFar rest s n new) where

@@ -6,7 +6,7 @@ use Rattle.std.proofs.lemmas.Bool.{true≢false}
 use Rattle.std.proofs.lemmas.List.{length-append}
 use Rattle.std.proofs.lemmas.List.Elements.{All-head, All-tail}
 use Rattle.termwiz_cell.specs.Width.{unicode_columns}
-use Rattle.termwiz_share.specs.Client.{Shown, has_other_size, taken}
+use Rattle.termwiz_share.specs.Client.{Shown, has_other_size, shown_after}
 use Rattle.termwiz_share.specs.Feeding.{TakesAll}
 use Rattle.termwiz_share.specs.Histories.{Given, stream}
 use Rattle.termwiz_share.specs.declared.error.ClientError.{ClientError}
@@ -30,7 +30,7 @@ answer-some a rest none = omega (arith, ap length none, length-append (answer un
 -- what is shown and stale of answers, the first of which a client that shows s takes
 module _ (s : Shown) (f : Given) (takes : TakesFrame s f) where
   one_shown : shown_one s f.sent ≡ shown_with f ∷ []
-  one_shown = ap (λ (b : Bool). if b then taken unicode_columns s f.sent ∷ [] else []) takes.fresh ∙ ap (λ (v : Shown). v ∷ []) takes.leads
+  one_shown = ap (λ (b : Bool). if b then shown_after unicode_columns s f.sent ∷ [] else []) takes.fresh ∙ ap (λ (v : Shown). v ∷ []) takes.leads
 
   none_stale : (n : ℕ) → stale_one n s f.sent ≡ []
   none_stale n = rw takes.fresh refl
@@ -81,11 +81,11 @@ module _ (limits : Limits) (some : 0 < limits.bytes) where
       let here : answer_at unicode_columns limits bytes ≡ Ok (f.sent, stream unicode_columns frames) = decoded f s bytes (stream unicode_columns frames) chain.0 (All-head (IsWithinFrames limits) f frames within) is in
       let same : ◌≡◌ {A = SentAnswer × List ℕ} (a, takes.0) (f.sent, stream unicode_columns frames) = ok_is (a, takes.0) (f.sent, stream unicode_columns frames) (answer_at unicode_columns limits bytes) takes.1 here in
       let one : a ≡ f.sent = ap (λ (p : SentAnswer × List ℕ). p.0) same in
-      let next : taken unicode_columns s a ≡ shown_with f = ap (taken unicode_columns s) one ∙ chain.0.leads in
-      let later = shows_each frames (n + 1) (taken unicode_columns s a) t takes.0 rest given count fault (subst (λ (v : Shown). TakesFrames v frames) (sym next) chain.1) (All-tail (IsWithinFrames limits) f frames within) (ap (λ (p : SentAnswer × List ℕ). p.1) same) takes.3 ends in
+      let next : shown_after unicode_columns s a ≡ shown_with f = ap (shown_after unicode_columns s) one ∙ chain.0.leads in
+      let later = shows_each frames (n + 1) (shown_after unicode_columns s a) t takes.0 rest given count fault (subst (λ (v : Shown). TakesFrames v frames) (sym next) chain.1) (All-tail (IsWithinFrames limits) f frames within) (ap (λ (p : SentAnswer × List ℕ). p.1) same) takes.3 ends in
       record {
-        shown = ap (λ (l : List Shown). l ++ shown_each (taken unicode_columns s a) given) (ap (shown_one s) one ∙ one_shown s f chain.0) ∙ ap (λ (l : List Shown). shown_with f ∷ l) later.shown;
-        stale = ap (λ (l : List (ℕ × ℕ)). l ++ stale_each (n + 1) (taken unicode_columns s a) given) (ap (stale_one n s) one ∙ none_stale s f chain.0 n) ∙ later.stale;
+        shown = ap (λ (l : List Shown). l ++ shown_each (shown_after unicode_columns s a) given) (ap (shown_one s) one ∙ one_shown s f chain.0) ∙ ap (λ (l : List Shown). shown_with f ∷ l) later.shown;
+        stale = ap (λ (l : List (ℕ × ℕ)). l ++ stale_each (n + 1) (shown_after unicode_columns s a) given) (ap (stale_one n s) one ∙ none_stale s f chain.0 n) ∙ later.stale;
         no_fault = later.no_fault;
       }
 

@@ -13,12 +13,12 @@ use Rattle.termwiz_share.specs.declared.taken.Taken.TheVariants as outcomes
 use Rattle.termwiz_share.proofs.Streams.{err_is, ok_or_err}
 use Rattle.termwiz_share.proofs.Taking.{no_size, none_taken}
 use Rattle.termwiz_wire.specs.Answers.{answer_at}
-use Rattle.termwiz_wire.specs.MoreBytes.{Goes, IsCut}
+use Rattle.termwiz_wire.specs.MoreBytes.{Goes, IsTruncated}
 use Rattle.termwiz_wire.specs.declared.fault.Fault.{Fault}
 use Rattle.termwiz_wire.specs.declared.fault.Limits.{Limits}
 use Rattle.termwiz_wire.specs.declared.sent.SentAnswer.{SentAnswer}
 use Rattle.termwiz_wire.proofs.PastLimits.{laws}
-use Rattle.sessions.specs.Sending.{columns}
+use Rattle.sessions.specs.Sending.{unicode_measure}
 use Rattle.sessions.specs.Taking.{IsSession, TakesComing, TakesAnswer, coming, of_client}
 use Rattle.sessions.specs.Watching.{TakesNone}
 use Rattle.sessions.specs.declared.watch.stream.StreamError.{StreamError}
@@ -73,7 +73,7 @@ nil_front [] b e = refl
 nil_front (x ∷ a) b e = cc
 
 module _ (limits : Limits) (some : 0 < limits.bytes) where
-  goes : Goes (answer_at unicode_columns limits) IsCut
+  goes : Goes (answer_at unicode_columns limits) IsTruncated
   goes = (laws unicode_columns limits some).goes
 
   -- what is taken is taken where more bytes come
@@ -90,13 +90,13 @@ module _ (limits : Limits) (some : 0 < limits.bytes) where
   some_value : (bytes : Bytes) (a : SentAnswer) (left : Bytes) → answer_at unicode_columns limits bytes ≡ Ok (a, left) → bytes ≡ [] → ⊥
   some_value bytes a left is none = ok_or_err (a, left) goes.first (answer_at unicode_columns limits []) (ap (answer_at unicode_columns limits) (sym none) ∙ is) goes.starts
 
-  some_fault : (bytes : Bytes) (f : Fault) → answer_at unicode_columns limits bytes ≡ Err f → (IsCut f → ⊥) → bytes ≡ [] → ⊥
+  some_fault : (bytes : Bytes) (f : Fault) → answer_at unicode_columns limits bytes ≡ Err f → (IsTruncated f → ⊥) → bytes ≡ [] → ⊥
   some_fault bytes f is other none =
       let same : f ≡ goes.first = err_is f goes.first (answer_at unicode_columns limits []) (ap (answer_at unicode_columns limits) (sym none) ∙ is) goes.starts in
       other (ap (λ (x : Fault). x.kind) same ∙ goes.starts_cut)
 
   -- an answer that a client took off its bytes
-  took : (c d : Viewer) (t : Taken) → c.limits ≡ limits → TakesNextOrNone columns c (Ok (Some t)) d → TakesAnswer limits (shown_by c) c.kept t (shown_by d) d.kept
+  took : (c d : Viewer) (t : Taken) → c.limits ≡ limits → TakesNextOrNone unicode_measure c (Ok (Some t)) d → TakesAnswer limits (shown_by c) c.kept t (shown_by d) d.kept
   took c d outcomes.Shown same s = record { sent = s.0; decoded = rw same at s.1; size = s.3; outcome = rw s.2 refl; shows = s.4 }
   took c d (outcomes.Stale at) same s = record {
     sent = s.0;
@@ -131,12 +131,12 @@ module _ (first : Viewer) (some : 0 < first.limits.bytes) (known : Option Bytes)
   abbrev Comes : Result (Option Taken) StreamError → Viewer → Option Bytes → Type 0
   Comes result new after = IfSome known (λ bytes. TakesComing first.limits (shown_by first) bytes result (shown_by new) (coming new after))
 
-  open_step : (new : Viewer) (r : Result (Option Taken) ClientError) → TakesNext columns now r new → TakesNextOrNone columns now r new
+  open_step : (new : Viewer) (r : Result (Option Taken) ClientError) → TakesNext unicode_measure now r new → TakesNextOrNone unicode_measure now r new
   open_step new r (inl stopped) = absurd (let bad : Some stopped.0 ≡ None = sym stopped.1 ∙ there.reading in let no_way : ⊥ = cc in no_way)
   open_step new r (inr step) = step.1
 
   -- an answer is taken
-  pub comes_taken : (new : Viewer) (t : Taken) → TakesNext columns now (Ok (Some t)) new → Comes (Ok (Some t)) new later
+  pub comes_taken : (new : Viewer) (t : Taken) → TakesNext unicode_measure now (Ok (Some t)) new → Comes (Ok (Some t)) new later
   comes_taken new t next = if_known known (λ bytes. TakesComing first.limits (shown_by first) bytes (Ok (Some t)) (shown_by new) (coming new later)) (λ bytes is.
       let rest = all_of bytes is in
       let here : TakesAnswer first.limits (shown_by first) now.kept t (shown_by new) new.kept = subst (λ (s : Shown). TakesAnswer first.limits s now.kept t (shown_by new) new.kept) there.shows (took first.limits some now new t there.limits (open_step new (Ok (Some t)) next)) in (
@@ -146,7 +146,7 @@ module _ (first : Viewer) (some : 0 < first.limits.bytes) (known : Option Bytes)
       ))
 
   -- the next one isn't
-  fails : (new : Viewer) (e : ClientError) → TakesNextOrNone columns now (Err e) new → (bytes : Bytes) → known ≡ Some bytes → TakesComing first.limits (shown_by first) bytes (Err (of_client e)) (shown_by new) (coming new later)
+  fails : (new : Viewer) (e : ClientError) → TakesNextOrNone unicode_measure now (Err e) new → (bytes : Bytes) → known ≡ Some bytes → TakesComing first.limits (shown_by first) bytes (Err (of_client e)) (shown_by new) (coming new later)
   fails new (errors.Fault f) step bytes is =
       let rest = all_of bytes is in
       let here : answer_at unicode_columns first.limits now.kept ≡ Err f = rw there.limits at step.0 in
@@ -160,7 +160,7 @@ module _ (first : Viewer) (some : 0 < first.limits.bytes) (known : Option Bytes)
   fails new errors.Numbers step bytes is = tt
   fails new errors.Memory step bytes is = tt
 
-  pub comes_failed : (new : Viewer) (e : ClientError) → TakesNext columns now (Err e) new → Comes (Err (of_client e)) new later
+  pub comes_failed : (new : Viewer) (e : ClientError) → TakesNext unicode_measure now (Err e) new → Comes (Err (of_client e)) new later
   comes_failed new e next = if_known known (λ bytes. TakesComing first.limits (shown_by first) bytes (Err (of_client e)) (shown_by new) (coming new later)) (λ bytes is. fails new e (open_step new (Err e) next) bytes is)
 
   -- the stream ends, where the bytes make no answer
@@ -168,11 +168,11 @@ module _ (first : Viewer) (some : 0 < first.limits.bytes) (known : Option Bytes)
     all_kept : (bytes : Bytes) → known ≡ Some bytes → bytes ≡ now.kept
     all_kept bytes is = let rest = all_of bytes is in rest.all ∙ ap (λ (l : Bytes). now.kept ++ l) (at_end rest.rest later rest.known end) ∙ append-nil now.kept
 
-    pub comes_ended : AreCut unicode_columns now.limits now.kept → EndsHere columns now (Ok tt) → Comes (Ok None) now later
+    pub comes_ended : AreCut unicode_columns now.limits now.kept → EndsHere unicode_measure now (Ok tt) → Comes (Ok None) now later
     comes_ended cut (inl none) = if_known known (λ bytes. TakesComing first.limits (shown_by first) bytes (Ok None) (shown_by now) (coming now later)) (λ bytes is. (all_kept bytes is ∙ none, there.shows))
     comes_ended cut (inr whole) = absurd (ok_or_err (whole.0, whole.1) cut.fault (answer_at unicode_columns now.limits now.kept) whole.2 cut.is)
 
-    ends : (e : ClientError) → EndsHere columns now (Err e) → (bytes : Bytes) → known ≡ Some bytes → TakesComing first.limits (shown_by first) bytes (Err (of_client e)) (shown_by now) (coming now later)
+    ends : (e : ClientError) → EndsHere unicode_measure now (Err e) → (bytes : Bytes) → known ≡ Some bytes → TakesComing first.limits (shown_by first) bytes (Err (of_client e)) (shown_by now) (coming now later)
     ends (errors.Fault f) here bytes is =
         let all = all_kept bytes is in
         (λ none. here.0 (sym all ∙ none), ap (answer_at unicode_columns first.limits) all ∙ (rw there.limits at here.1), there.shows)
@@ -180,14 +180,14 @@ module _ (first : Viewer) (some : 0 < first.limits.bytes) (known : Option Bytes)
     ends errors.Numbers here bytes is = absurd here
     ends errors.Memory here bytes is = tt
 
-    pub comes_cut : (e : ClientError) → EndsHere columns now (Err e) → Comes (Err (of_client e)) now later
+    pub comes_cut : (e : ClientError) → EndsHere unicode_measure now (Err e) → Comes (Err (of_client e)) now later
     comes_cut e here = if_known known (λ bytes. TakesComing first.limits (shown_by first) bytes (Err (of_client e)) (shown_by now) (coming now later)) (ends e here)
 
   -- no answer is whole, and the client is where it was
-  pub there_none : (new : Viewer) → TakesNext columns now (Ok None) new → IsThere first known new later
+  pub there_none : (new : Viewer) → TakesNext unicode_measure now (Ok None) new → IsThere first known new later
   there_none new next = subst (λ (v : Viewer). IsThere first known v later) (sym (open_step new (Ok None) next).1) there
 
-  pub cut_none : (new : Viewer) → TakesNext columns now (Ok None) new → AreCut unicode_columns new.limits new.kept
+  pub cut_none : (new : Viewer) → TakesNext unicode_measure now (Ok None) new → AreCut unicode_columns new.limits new.kept
   cut_none new next = let step = open_step new (Ok None) next in subst (λ (v : Viewer). AreCut unicode_columns v.limits v.kept) (sym step.1) step.0
 
   -- the bytes can't be read, or kept

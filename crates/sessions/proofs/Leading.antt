@@ -12,7 +12,7 @@ use Rattle.termwiz_surface.specs.Surface.{blank_surface}
 use Rattle.termwiz_wire.specs.declared.sent.Ask.{Ask}
 use Rattle.sessions.specs.Frames.{TakesFrame, first_shown, shown_with}
 use Rattle.sessions.specs.SendSteps.{HasNamed}
-use Rattle.sessions.specs.Sending.{Sender, columns, frame_of}
+use Rattle.sessions.specs.Sending.{Sender, frame_of, unicode_measure}
 use Rattle.sessions.specs.ViewRun.{unicode}
 
 abbrev pub Viewer : Type 0
@@ -37,7 +37,7 @@ module _ (s : Sender) (n : ℕ) (v : Shown) (named : HasNamed s n v) where
     | inr some ↦ inr (source_is (λ z. true≢false (sym (ap (λ (k : ℕ). k == 0) z) ∙ some)), from.1 ∙ asks ∙ sym number_is)
   ]
 
-  abbrev as_asked : (ask : Ask) → ask.number ≡ n → (bytes : List ℕ) → IsResponse columns s ask bytes → IsResponse columns s (ask_of named.client) bytes
+  abbrev as_asked : (ask : Ask) → ask.number ≡ n → (bytes : List ℕ) → IsResponse unicode_measure s ask bytes → IsResponse unicode_measure s (ask_of named.client) bytes
   as_asked ask asks bytes r = record {
     given = r.given;
     encoded = r.encoded;
@@ -52,10 +52,10 @@ module _ (s : Sender) (n : ℕ) (v : Shown) (named : HasNamed s n v) where
     borne = r.borne;
   }
 
-module _ (s : Sender) (n : ℕ) (v : Shown) (named : HasNamed s n v) (ask : Ask) (asks : ask.number ≡ n) (bytes : List ℕ) (r : IsResponse columns s ask bytes) where
+module _ (s : Sender) (n : ℕ) (v : Shown) (named : HasNamed s n v) (ask : Ask) (asks : ask.number ≡ n) (bytes : List ℕ) (r : IsResponse unicode_measure s ask bytes) where
   pub given_leads : TakesFrame v (frame_of s ask bytes r)
   given_leads =
-      let took = response_taken columns s named.client named.serves bytes (as_asked s n v named ask asks bytes r) in
+      let took = response_taken unicode_measure s named.client named.serves bytes (as_asked s n v named ask asks bytes r) in
       subst (λ (x : Shown). TakesFrame x (frame_of s ask bytes r)) named.shows (record { form = r.is_sent; borne = r.borne; fresh = took.0; size = took.1; leads = took.2 })
 
   -- its number names what the source shows
@@ -68,14 +68,14 @@ module _ (s : Sender) (n : ℕ) (v : Shown) (named : HasNamed s n v) (ask : Ask)
       is_past = named.serves.is_past;
       one_measure = refl;
       not_ahead = λ own. omega arith;
-      named = λ own. names_now columns s named.client named.serves bytes (as_asked s n v named ask asks bytes r);
+      named = λ own. names_now unicode_measure s named.client named.serves bytes (as_asked s n v named ask asks bytes r);
     };
     number = r.number;
     own = λ some. refl;
   }
 
 -- what was named stays so
-pub still_named : (s t : Sender) (n : ℕ) (v : Shown) → t.number ≡ s.number → KeepsClients columns s t → HasNamed s n v → HasNamed t n v
+pub still_named : (s t : Sender) (n : ℕ) (v : Shown) → t.number ≡ s.number → KeepsClients unicode_measure s t → HasNamed s n v → HasNamed t n v
 still_named s t n v same keeps named = record {
   client = named.client;
   shows = named.shows;
@@ -85,5 +85,5 @@ still_named s t n v same keeps named = record {
 }
 
 -- a client that has taken no answer shows what no number names
-pub first_named : (s : Sender) → Serves columns s nobody → HasNamed s 0 first_shown
+pub first_named : (s : Sender) → Serves unicode_measure s nobody → HasNamed s 0 first_shown
 first_named s serves = record { client = nobody; shows = refl; serves = serves; number = refl; own = λ some. absurd (some refl) }

@@ -11,14 +11,14 @@ use Rattle.termwiz_share.specs.Serving.{KeepsClients, Serves}
 use Rattle.termwiz_surface.specs.declared.view.Outcome.{Outcome}
 use Rattle.sessions.specs.Frames.{TakesFrames, IsChain, first_shown, shown_with}
 use Rattle.sessions.specs.SendSteps.{HasNamed, SendsOn}
-use Rattle.sessions.specs.Sending.{Happens, IsAnswered, IsSendInRange, Sender, stream_sent, columns, frame_of, own_ask, Sends, Ended, Made, Answered, first_source, AreSent}
+use Rattle.sessions.specs.Sending.{Happens, IsAnswered, IsSendInRange, Sender, stream_sent, unicode_measure, frame_of, own_ask, Sends, Ended, Made, Answered, first_source, AreSent}
 use Rattle.sessions.specs.declared.send.runs.SendEvent.{SendEvent}
 use Rattle.sessions.specs.declared.send.runs.SendEvent.TheVariants.{Send}
 use Rattle.sessions.specs.declared.send.runs.SendOutcome.{SendOutcome}
 use Rattle.sessions.specs.declared.send.runs.SendOutcome.TheVariants.{Of, Sent}
 use Rattle.sessions.proofs.Leading.{first_named, given_leads, given_named, nobody, still_named}
 
-pub made_steps : (s t : Sender) (n : ℕ) (v : Shown) (e : SendEvent) (outcome : Outcome) → Happens s e outcome t → KeepsClients columns s t → HasNamed s n v → SendsOn s n v e (Of outcome) t n
+pub made_steps : (s t : Sender) (n : ℕ) (v : Shown) (e : SendEvent) (outcome : Outcome) → Happens s e outcome t → KeepsClients unicode_measure s t → HasNamed s n v → SendsOn s n v e (Of outcome) t n
 made_steps s t n v e outcome happens keeps named = record {
   given = [];
   next = v;
@@ -27,7 +27,7 @@ made_steps s t n v e outcome happens keeps named = record {
   sends = λ events outcomes frames r. Made s t n e outcome events outcomes frames happens r;
 }
 
-pub given_steps : (s t : Sender) (n : ℕ) (v : Shown) (bytes : Vec ℕ Global) → IsAnswered s (own_ask s n) bytes t → KeepsClients columns s t → HasNamed s n v → SendsOn s n v Send (Sent bytes) t (next_number t.surface.log)
+pub given_steps : (s t : Sender) (n : ℕ) (v : Shown) (bytes : Vec ℕ Global) → IsAnswered s (own_ask s n) bytes t → KeepsClients unicode_measure s t → HasNamed s n v → SendsOn s n v Send (Sent bytes) t (next_number t.surface.log)
 given_steps s t n v bytes is keeps named =
     let same : t.number ≡ s.number = ap (λ (x : Sender). x.number) is.trims in
     let there : HasNamed t n v = still_named s t n v same keeps named in
@@ -55,7 +55,7 @@ pub record HasRun (number w h : ℕ) (events : List SendEvent) (left : List Send
   pub leads : (more : List Given) → TakesFrames viewing more → TakesFrames first_shown (frames ++ more)
   pub sends : (later : List SendOutcome) (more : List Given) → Sends s n left later more → Sends (first_source number w h) 0 events (outcomes ++ later) (frames ++ more)
 
-pub first_run : (number w h : ℕ) (events : List SendEvent) (s : Sender) (n : ℕ) → s ≡ first_source number w h → n ≡ 0 → Serves columns s nobody → All IsSendInRange events → HasRun number w h events events [] s n
+pub first_run : (number w h : ℕ) (events : List SendEvent) (s : Sender) (n : ℕ) → s ≡ first_source number w h → n ≡ 0 → Serves unicode_measure s nobody → All IsSendInRange events → HasRun number w h events events [] s n
 first_run number w h events s n is none serves in_range =
     let P : Sender → Type 0 = λ t. HasRun number w h events events [] t n in
     let Q : ℕ → Type 0 = λ k. HasRun number w h events events [] (first_source number w h) k in
@@ -63,7 +63,7 @@ first_run number w h events s n is none serves in_range =
       frames = [];
       viewing = first_shown;
       in_range = in_range;
-      named = first_named (first_source number w h) (subst (λ (t : Sender). Serves columns t nobody) is serves);
+      named = first_named (first_source number w h) (subst (λ (t : Sender). Serves unicode_measure t nobody) is serves);
       leads = λ more l. l;
       sends = λ later more r. r;
     }))

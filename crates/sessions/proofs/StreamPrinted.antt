@@ -12,7 +12,7 @@ use Rattle.termwiz_share.specs.declared.taken.Taken.{Taken}
 use Rattle.termwiz_share.specs.declared.taken.Taken.TheVariants as outcomes
 use Rattle.sessions.specs.Frames.{first_shown}
 use Rattle.sessions.specs.Printed.{stale_line}
-use Rattle.sessions.specs.Printing.{Finishes, Outputs, Prints, PrintsOne, PrintsUpTo, end_by, pending_lines, shown_lines, whole}
+use Rattle.sessions.specs.Printing.{Finishes, Outputs, Prints, PrintsOne, PrintsUpTo, end_by, end_of_watch, pending_lines, shown_lines}
 use Rattle.sessions.specs.Taking.{TakesComing, coming}
 use Rattle.sessions.specs.Watching.{TakesUpTo, kept, shown_each, stale_each}
 use Rattle.sessions.specs.declared.ending.SessionError.{SessionError}
@@ -172,7 +172,7 @@ module _ (o : WatchOptions) (bytes : Bytes) (count : ℕ) (now new : Viewer) (la
     }
 
     -- all are taken
-    pub prints_whole : (result : Result (Unit {0}) WatchEnd) → TakesHere (Ok None) → Finishes p (shown_by new) (whole p) mid.out result out → Prints o bytes result old now_written
+    pub prints_whole : (result : Result (Unit {0}) WatchEnd) → TakesHere (Ok None) → Finishes p (shown_by new) (end_of_watch p) mid.out result out → Prints o bytes result old now_written
     prints_whole (Ok u) takes ends =
         let all = all_come o.limits bytes count now new later after so_far.come takes in
         let none = so_far.reported.none (is_whole p.stale ends.0) in
@@ -219,7 +219,7 @@ module _ (o : WatchOptions) (known : Option Bytes) (count : ℕ) (now new : View
   next_printed q newer t says prints = if_some known (λ bytes. IsSoFar o bytes count now later p old mid) (λ bytes. IsSoFar o bytes (count + 1) new after q old newer)
       (λ bytes here. so_far_on o bytes count now new later after p q old mid newer here t (within (Ok (Some t)) says) prints) so_far
 
-  pub whole_printed : (out : Option Bytes) (result : Result (Unit {0}) WatchEnd) → Says now later (Ok None) new after → Finishes p (shown_by new) (whole p) mid.out result out → IfSome known (λ bytes. Prints o bytes result old (record { out = out; err = mid.err }))
+  pub whole_printed : (out : Option Bytes) (result : Result (Unit {0}) WatchEnd) → Says now later (Ok None) new after → Finishes p (shown_by new) (end_of_watch p) mid.out result out → IfSome known (λ bytes. Prints o bytes result old (record { out = out; err = mid.err }))
   whole_printed out result says ends = if_some known (λ bytes. IsSoFar o bytes count now later p old mid) (λ bytes. Prints o bytes result old (record { out = out; err = mid.err }))
       (λ bytes here. prints_whole o bytes count now new later after p p old mid mid here out result (within (Ok None) says) ends) so_far
 
@@ -235,12 +235,12 @@ prints_refused o known error result old more is =
 
 -- ---- nothing is reported where none is stale
 
-whole_fresh : (p : Printing) → whole p ≡ Ok tt → p.stale ≡ false
+whole_fresh : (p : Printing) → end_of_watch p ≡ Ok tt → p.stale ≡ false
 whole_fresh p e = elim (cases_Bool p.stale) [
   | inl stale ↦ absurd (let no : ◌≡◌ {A = Result (Unit {0}) WatchEnd} (Err Stale) (Ok tt) = rw stale at e in cc)
   | inr fresh ↦ fresh
 ]
 
-pub silent_whole : (p : Printing) (s : Shown) (old new : Option Bytes) (r : Result (Unit {0}) WatchEnd) (A : Type 0) → Finishes p s (whole p) old r new → (p.stale ≡ false → A) → OnOk r A
+pub silent_whole : (p : Printing) (s : Shown) (old new : Option Bytes) (r : Result (Unit {0}) WatchEnd) (A : Type 0) → Finishes p s (end_of_watch p) old r new → (p.stale ≡ false → A) → OnOk r A
 silent_whole p s old new (Ok u) A f silent = silent (whole_fresh p (sym f.0))
 silent_whole p s old new (Err e) A f silent = tt

@@ -8,7 +8,7 @@ use Rattle.std.proofs.lemmas.List.{length-append, map-append}
 use Rattle.std.proofs.lemmas.List.Elements.{All-nil, All-push}
 use Rattle.std.proofs.Math.Seq.{drop-append_seam}
 use Rattle.termwiz_cell.specs.Width.{unicode_columns}
-use Rattle.termwiz_share.specs.Client.{Shown, fits, shown_by, stale_place, taken}
+use Rattle.termwiz_share.specs.Client.{Shown, fits, shown_after, shown_by, stale_place}
 use Rattle.termwiz_share.specs.Feeding.{TakesAll}
 use Rattle.termwiz_share.specs.declared.error.ClientError.{ClientError}
 use Rattle.termwiz_share.specs.declared.taken.Taken.{Taken}
@@ -20,7 +20,7 @@ use Rattle.termwiz_wire.specs.declared.fault.Limits.{Limits}
 use Rattle.termwiz_wire.specs.declared.sent.SentAnswer.{SentAnswer}
 use Rattle.sessions.specs.Frames.{first_shown}
 use Rattle.sessions.specs.Taking.{TakesComing, TakesAnswer, coming, taken_as}
-use Rattle.sessions.specs.Watching.{EndsAt, IsWatched, KeepsAnswer, KeepsOne, TakesUpTo, kept, shown_each, shown_one, stale_each, stale_one, viewed}
+use Rattle.sessions.specs.Watching.{EndsAt, IsWatched, KeepsOne, KeepsOutcome, TakesUpTo, kept, shown_each, shown_one, stale_each, stale_one, viewed}
 use Rattle.sessions.specs.declared.watch.runs.View.{View}
 use Rattle.sessions.specs.declared.watch.runs.Watched.{Watched}
 use Rattle.sessions.specs.declared.watch.stream.StreamError.{StreamError}
@@ -66,21 +66,21 @@ stale_by_one (outcomes.Stale at) n = (n, at) ∷ []
 abbrev made_by : Shown → SentAnswer → Bool → Taken
 made_by s a b = if b then outcomes.Shown else outcomes.Stale (stale_place s a)
 
-shows_one : (s u : Shown) (a : SentAnswer) (t : Taken) → t ≡ taken_as s a → u ≡ taken unicode_columns s a → shown_one s a ≡ shown_by_one t u
+shows_one : (s u : Shown) (a : SentAnswer) (t : Taken) → t ≡ taken_as s a → u ≡ shown_after unicode_columns s a → shown_one s a ≡ shown_by_one t u
 shows_one s u a t is shows = elim (cases_Bool (fits s a)) [
   | inl fit ↦ lines fit ∙ ap (λ (v : Shown). v ∷ []) (sym shows) ∙ ap (λ (x : Taken). shown_by_one x u) (sym (is ∙ ap (made_by s a) fit))
   | inr unfit ↦ lines unfit ∙ ap (λ (x : Taken). shown_by_one x u) (sym (is ∙ ap (made_by s a) unfit))
 ]
   where
-    lines : {b : Bool} → fits s a ≡ b → shown_one s a ≡ (if b then taken unicode_columns s a ∷ [] else [])
-    lines e = ap (λ (b : Bool). if b then taken unicode_columns s a ∷ [] else []) e
+    lines : {b : Bool} → fits s a ≡ b → shown_one s a ≡ (if b then shown_after unicode_columns s a ∷ [] else [])
+    lines e = ap (λ (b : Bool). if b then shown_after unicode_columns s a ∷ [] else []) e
 
 -- what is stale changes nothing
 abbrev pub StaysBy : Taken → Shown → Shown → Type 0
 StaysBy outcomes.Shown s u = Unit {0}
 StaysBy (outcomes.Stale at) s u = u ≡ s
 
-stays_one : (s u : Shown) (a : SentAnswer) (t : Taken) → t ≡ taken_as s a → u ≡ taken unicode_columns s a → StaysBy t s u
+stays_one : (s u : Shown) (a : SentAnswer) (t : Taken) → t ≡ taken_as s a → u ≡ shown_after unicode_columns s a → StaysBy t s u
 stays_one s u a outcomes.Shown is shows = tt
 stays_one s u a (outcomes.Stale at) is shows = elim (cases_Bool (fits s a)) [
   | inl fit ↦ absurd (let bad : outcomes.Stale at ≡ outcomes.Shown = is ∙ ap (made_by s a) fit in let no_way : ⊥ = cc in no_way)
@@ -100,8 +100,8 @@ module _ (limits : Limits) where
   shown_push : (s t : Shown) (bytes rest : Bytes) (given : List SentAnswer) (a : SentAnswer) → TakesAll unicode_columns limits s bytes given t rest → shown_each s (given ++ a ∷ []) ≡ shown_each s given ++ shown_one t a
   shown_push s t bytes rest [] a d = append-nil (shown_one s a) ∙ ap (λ (v : Shown). shown_one v a) (sym d.1)
   shown_push s t bytes rest (b ∷ more) a d =
-      ap (λ (l : List Shown). shown_one s b ++ l) (shown_push (taken unicode_columns s b) t d.0 rest more a d.3)
-      ∙ sym (append_assoc (shown_one s b) (shown_each (taken unicode_columns s b) more) (shown_one t a))
+      ap (λ (l : List Shown). shown_one s b ++ l) (shown_push (shown_after unicode_columns s b) t d.0 rest more a d.3)
+      ∙ sym (append_assoc (shown_one s b) (shown_each (shown_after unicode_columns s b) more) (shown_one t a))
 
   stale_push : (n : ℕ) (s t : Shown) (bytes rest : Bytes) (given : List SentAnswer) (a : SentAnswer) → TakesAll unicode_columns limits s bytes given t rest → stale_each n s (given ++ a ∷ []) ≡ stale_each n s given ++ stale_one (n + length given) t a
   stale_push n s t bytes rest [] a d =
@@ -109,9 +109,9 @@ module _ (limits : Limits) where
       append-nil (stale_one n s a) ∙ ap (λ (v : Shown). stale_one n v a) (sym d.1) ∙ ap (λ (k : ℕ). stale_one k t a) (sym at)
   stale_push n s t bytes rest (b ∷ more) a d =
       let at : (n + 1) + length more ≡ n + length (b ∷ more) = omega arith in
-      ap (λ (l : List (ℕ × ℕ)). stale_one n s b ++ l) (stale_push (n + 1) (taken unicode_columns s b) t d.0 rest more a d.3)
-      ∙ sym (append_assoc (stale_one n s b) (stale_each (n + 1) (taken unicode_columns s b) more) (stale_one ((n + 1) + length more) t a))
-      ∙ ap (λ (k : ℕ). (stale_one n s b ++ stale_each (n + 1) (taken unicode_columns s b) more) ++ stale_one k t a) at
+      ap (λ (l : List (ℕ × ℕ)). stale_one n s b ++ l) (stale_push (n + 1) (shown_after unicode_columns s b) t d.0 rest more a d.3)
+      ∙ sym (append_assoc (stale_one n s b) (stale_each (n + 1) (shown_after unicode_columns s b) more) (stale_one ((n + 1) + length more) t a))
+      ∙ ap (λ (k : ℕ). (stale_one n s b ++ stale_each (n + 1) (shown_after unicode_columns s b) more) ++ stale_one k t a) at
 
 -- ---- what is taken so far
 
@@ -234,7 +234,7 @@ module _ (limits : Limits) (each : Bool) (known : Option Bytes) (count : ℕ) (n
   within : (result : Result (Option Taken) StreamError) → Says now later result new after → IfSome (coming now later) (λ all. TakesComing limits (shown_by now) all result (shown_by new) (coming new after))
   within result says = subst (λ (l : Limits). IfSome (coming now later) (λ all. TakesComing l (shown_by now) all result (shown_by new) (coming new after))) same says
 
-  pub next_kept : (t : Taken) (more : Watched) → Says now later (Ok (Some t)) new after → KeepsAnswer each (shown_by new) (count + 1) t old more → (more.fault ≡ None) × IfSome known (λ bytes. IsKept limits each bytes (count + 1) new after more.views.items more.stale.items)
+  pub next_kept : (t : Taken) (more : Watched) → Says now later (Ok (Some t)) new after → KeepsOutcome each (shown_by new) (count + 1) t old more → (more.fault ≡ None) × IfSome known (λ bytes. IsKept limits each bytes (count + 1) new after more.views.items more.stale.items)
   next_kept outcomes.Shown more says keeps =
       let stale : more.stale ≡ old.stale = ap (λ (w : Watched). w.stale) keeps.1 in (
         ap (λ (w : Watched). w.fault) keeps.1 ∙ none,

@@ -6,7 +6,7 @@ use Rattle.std.specs.Io.KnownBytes.{Appends, Keeps}
 use Rattle.std.proofs.KnownBytes.{Appends-nil, Appends-trans, Appends-kept}
 use Rattle.std.proofs.Math.Seq.{split_at}
 use Rattle.std.proofs.lemmas.List.Concat.{flat_map-append}
-use Rattle.sessions.specs.Sending.{bytes_of, stream_sent}
+use Rattle.sessions.specs.Sending.{bytes_sent, stream_sent}
 use Rattle.sessions.specs.Writing.{AppendsSome}
 use Rattle.sessions.specs.declared.send.runs.SendOutcome.{SendOutcome}
 
@@ -40,12 +40,12 @@ some_more a b xs ys some = record {
 }
 
 -- all before one are sent, and a beginning of that one
-pub sent_some : (xs : List SendOutcome) (x : SendOutcome) (i : ℕ) (a b c : Known) → i < length xs → get_or xs i x ≡ x → Appends a b (stream_sent (take i xs)) → AppendsSome b c (bytes_of x) → AppendsSome a c (stream_sent xs)
+pub sent_some : (xs : List SendOutcome) (x : SendOutcome) (i : ℕ) (a b c : Known) → i < length xs → get_or xs i x ≡ x → Appends a b (stream_sent (take i xs)) → AppendsSome b c (bytes_sent x) → AppendsSome a c (stream_sent xs)
 sent_some xs x i a b c within is before some =
     let later : List ℕ = stream_sent (drop (suc i) xs) in
     let split : xs ≡ take i xs ++ x ∷ drop (suc i) xs = split_at xs i x within ∙ ap (λ (y : SendOutcome). take i xs ++ y ∷ drop (suc i) xs) is in
-    let parts : stream_sent xs ≡ stream_sent (take i xs) ++ (bytes_of x ++ later) = ap stream_sent split ∙ flat_map-append bytes_of (take i xs) (x ∷ drop (suc i) xs) in
-    subst (λ (bs : List ℕ). AppendsSome a c bs) (sym parts) (some_next a b c (stream_sent (take i xs)) (bytes_of x ++ later) before (some_more b c (bytes_of x) later some))
+    let parts : stream_sent xs ≡ stream_sent (take i xs) ++ (bytes_sent x ++ later) = ap stream_sent split ∙ flat_map-append bytes_sent (take i xs) (x ∷ drop (suc i) xs) in
+    subst (λ (bs : List ℕ). AppendsSome a c bs) (sym parts) (some_next a b c (stream_sent (take i xs)) (bytes_sent x ++ later) before (some_more b c (bytes_sent x) later some))
 
 -- where something is known
 pub if_always : (known : Known) (P : List ℕ → Type 0) → ((bytes : List ℕ) → P bytes) → IfSome known P

@@ -3,7 +3,7 @@
 use Rattle.std.specs.Bool.{⊤}
 use Rattle.std.specs.Prelude.{◌≡◌, ◌≤◌, true, false, List, [], ◌∷◌, length}
 use Rattle.termwiz_cell.specs.Width.{unicode_columns}
-use Rattle.termwiz_share.specs.Client.{Shown, blank_screen, fits, has_other_size, taken}
+use Rattle.termwiz_share.specs.Client.{Shown, blank_screen, fits, has_other_size, shown_after}
 use Rattle.termwiz_share.specs.Histories.{Given}
 use Rattle.termwiz_wire.specs.Screens.{FitsLimits}
 use Rattle.termwiz_wire.specs.Sent.{IsSent, answer}
@@ -30,7 +30,7 @@ pub record TakesFrame (s : Shown) (f : Given) : Type 0 where
   pub borne : IsBorne f.sent
   pub fresh : fits s f.sent ≡ true
   pub size : has_other_size s f.sent ≡ false
-  pub leads : taken unicode_columns s f.sent ≡ shown_with f
+  pub leads : shown_after unicode_columns s f.sent ≡ shown_with f
 
 -- a client that shows s takes each of the answers in turn
 abbrev pub TakesFrames : Shown → List Given → Type 0

@@ -43,8 +43,8 @@ PrintsOne s number (outcomes.Stale at) p old q new =
     (q ≡ record p { stale = true })
 
 -- where all answers were taken
-abbrev pub whole : Printing → Result (Unit {0}) WatchEnd
-whole p = if p.stale then Err Stale else Ok tt
+abbrev pub end_of_watch : Printing → Result (Unit {0}) WatchEnd
+end_of_watch p = if p.stale then Err Stale else Ok tt
 
 -- what is still to be printed, where s is shown
 abbrev pub pending_lines : Printing → Shown → List ℕ

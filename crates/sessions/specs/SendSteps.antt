@@ -5,7 +5,7 @@ use Rattle.termwiz_share.specs.Client.{ClientValue, Shown, shown_by}
 use Rattle.termwiz_share.specs.Histories.{Given}
 use Rattle.termwiz_share.specs.Serving.{Serves}
 use Rattle.sessions.specs.Frames.{TakesFrames}
-use Rattle.sessions.specs.Sending.{Sender, Sends, columns}
+use Rattle.sessions.specs.Sending.{Sender, Sends, unicode_measure}
 use Rattle.sessions.specs.declared.send.runs.SendEvent.{SendEvent}
 use Rattle.sessions.specs.declared.send.runs.SendOutcome.{SendOutcome}
 
@@ -13,7 +13,7 @@ use Rattle.sessions.specs.declared.send.runs.SendOutcome.{SendOutcome}
 pub record HasNamed (s : Sender) (n : ℕ) (v : Shown) : Type 0 where
   pub client : ClientValue UnicodeWidths
   pub shows : shown_by client ≡ v
-  pub serves : Serves columns s client
+  pub serves : Serves unicode_measure s client
   pub number : v.number ≡ n
   pub own : (n ≡ 0 → ⊥) → v.source ≡ s.number
 

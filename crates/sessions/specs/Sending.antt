@@ -8,7 +8,7 @@ use Rattle.termwiz_cell.specs.Width.{unicode_columns}
 use Rattle.termwiz_cell.specs.declared.emoji.UnicodeWidths.{UnicodeWidths}
 use Rattle.termwiz_screen.specs.Log.{next_number}
 use Rattle.termwiz_share.specs.Histories.{Given}
-use Rattle.termwiz_share.specs.Source.{IsResponse, SourceValue, response_bytes, sent_by, trimmed}
+use Rattle.termwiz_share.specs.Source.{IsResponse, SourceValue, response_bytes, sent_by, trimmed_surface}
 use Rattle.termwiz_surface.specs.Schedule.{Acts}
 use Rattle.termwiz_surface.specs.Schedule as schedule
 use Rattle.termwiz_surface.specs.Surface.{SurfaceValue, blank_surface, full_of}
@@ -22,8 +22,8 @@ use Rattle.sessions.specs.declared.send.runs.SendOutcome.{SendOutcome}
 use Rattle.sessions.specs.declared.send.runs.SendOutcome.TheVariants.{Of, Sent}
 
 -- how texts are measured
-abbrev pub columns : UnicodeWidths → List ℕ → ℕ
-columns widths = unicode_columns
+abbrev pub unicode_measure : UnicodeWidths → List ℕ → ℕ
+unicode_measure widths = unicode_columns
 
 abbrev pub Sender : Type 0
 Sender = SourceValue UnicodeWidths
@@ -36,40 +36,41 @@ own (Resize w h) = event.Resize w h
 own Send = event.Follow
 
 -- the surface that it happens to: before changes the source forgets what no answer needs
-abbrev pub before : SendEvent → Sender → SurfaceValue UnicodeWidths
-before (Changes changes) s = trimmed s.surface
-before _ s = s.surface
+abbrev pub surface_before : SendEvent → Sender → SurfaceValue UnicodeWidths
+surface_before (Changes changes) s = trimmed_surface s.surface
+surface_before _ s = s.surface
 
 -- an event happens to the surface of the source s, which is t then
 pub record Happens (s : Sender) (e : SendEvent) (outcome : Outcome) (t : Sender) : Type 0 where
-  pub acts : Acts columns (before e s) (own e) outcome t.surface
+  pub acts : Acts unicode_measure (surface_before e s) (own e) outcome t.surface
   pub number : t.number ≡ s.number
 
 -- the source s gives a response of these bytes to the ask, and is t then: the delta that is due
 -- where the ask's number is known and the delta is worth sending, and else the repaint
 pub record IsAnswered (s : Sender) (ask : Ask) (bytes : Vec ℕ Global) (t : Sender) : Type 0 where
-  pub trims : t ≡ record s { surface = trimmed s.surface }
-  pub given : bytes.items ≡ response_bytes columns t ask
-  pub response : IsResponse columns t ask bytes.items
+  pub trims : t ≡ record s { surface = trimmed_surface s.surface }
+  pub given : bytes.items ≡ response_bytes unicode_measure t ask
+  pub response : IsResponse unicode_measure t ask bytes.items
 
 -- the sizes that the event names are those that a surface may have
 abbrev pub IsSendInRange : SendEvent → Type 0
 IsSendInRange e = schedule.IsInRange (own e)
 
 -- the bytes that were sent
-abbrev pub bytes_of : SendOutcome → List ℕ
-bytes_of (Of outcome) = []
-bytes_of (Sent bytes) = bytes.items
+abbrev pub bytes_sent : SendOutcome → List ℕ
+bytes_sent (Of outcome) = []
+bytes_sent (Sent bytes) = bytes.items
 
 abbrev pub stream_sent : List SendOutcome → List ℕ
-stream_sent outcomes = flat_map bytes_of outcomes
+stream_sent outcomes = flat_map bytes_sent outcomes
 
 -- by what an answer is sent where n is the number of the last one
 abbrev pub own_ask : Sender → ℕ → Ask
 own_ask s n = record { source = s.number; number = n }
 
 -- a response, and the full screen that the source has
-abbrev pub frame_of : (s : Sender) (ask : Ask) (bytes : List ℕ) → IsResponse columns s ask bytes → Given
+abbrev pub frame_of :
+    (s : Sender) (ask : Ask) (bytes : List ℕ) → IsResponse unicode_measure s ask bytes → Given
 frame_of s ask bytes r =
     record { sent = sent_by s.number r.given; shown = full_of s.surface }
 

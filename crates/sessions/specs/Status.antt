@@ -6,12 +6,12 @@ use Rattle.sessions.specs.declared.script.ScriptError.{ScriptError}
 use Rattle.sessions.specs.declared.script.ScriptError.TheVariants as script
 use Rattle.sessions.specs.declared.ending.SessionError.TheVariants.{Usage, Unreadable, BadCommand, Memory, Write}
 
-abbrev pub status_of : SessionError → ℕ
-status_of Usage = 2
-status_of Unreadable = 2
-status_of (BadCommand _) = 2
-status_of Memory = 3
-status_of Write = 3
+abbrev pub exit_status : SessionError → ℕ
+exit_status Usage = 2
+exit_status Unreadable = 2
+exit_status (BadCommand _) = 2
+exit_status Memory = 3
+exit_status Write = 3
 
 -- how a session ends whose script has no events
 abbrev pub of_script : ScriptError → SessionError

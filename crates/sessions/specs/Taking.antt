@@ -4,7 +4,7 @@ use Rattle.std.specs.Prelude.{◌≡◌, ℕ, false, if◌then◌else◌, List, 
 use Rattle.std.specs.Io.KnownBytes.{prepend_known}
 use Rattle.termwiz_cell.specs.Width.{unicode_columns}
 use Rattle.termwiz_cell.specs.declared.emoji.UnicodeWidths.{UnicodeWidths}
-use Rattle.termwiz_share.specs.Client.{ClientValue, Shown, fits, has_other_size, stale_place, taken}
+use Rattle.termwiz_share.specs.Client.{ClientValue, Shown, fits, has_other_size, shown_after, stale_place}
 use Rattle.termwiz_share.specs.declared.error.ClientError.{ClientError}
 use Rattle.termwiz_share.specs.declared.error.ClientError.TheVariants as errors
 use Rattle.termwiz_share.specs.declared.taken.Taken.{Taken}
@@ -44,7 +44,7 @@ pub record TakesAnswer (limits : Limits) (s : Shown) (bytes : List ℕ) (t : Tak
   pub decoded : answer_at unicode_columns limits bytes ≡ Ok (sent, left)
   pub size : has_other_size s sent ≡ false
   pub outcome : t ≡ taken_as s sent
-  pub shows : u ≡ taken unicode_columns s sent
+  pub shows : u ≡ shown_after unicode_columns s sent
 
 -- of all the bytes that come the next answer is taken, or there is none, or it isn't taken
 abbrev pub TakesComing :

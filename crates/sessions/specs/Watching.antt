@@ -3,7 +3,7 @@
 use Rattle.std.specs.List.{All}
 use Rattle.std.specs.Prelude.{◌≡◌, ℕ, ◌+◌, ◌-◌, Bool, true, List, [], ◌∷◌, ◌++◌, map, drop, length, Option, Some, None, Ok, Err, if◌then◌else◌}
 use Rattle.termwiz_cell.specs.Width.{unicode_columns}
-use Rattle.termwiz_share.specs.Client.{Shown, fits, has_other_size, size_place, stale_place, taken}
+use Rattle.termwiz_share.specs.Client.{Shown, fits, has_other_size, shown_after, size_place, stale_place}
 use Rattle.termwiz_share.specs.Feeding.{TakesAll}
 use Rattle.termwiz_share.specs.Histories.{Given}
 use Rattle.termwiz_share.specs.declared.error.ClientError.{ClientError}
@@ -36,22 +36,22 @@ pub record KeepsOne (each : Bool) (old : List View) (now : Shown) (new : List Vi
   pub kept : new ≡ (if each then old else []) ++ view ∷ []
 
 -- what comes of the answer of this number is kept, which was taken so
-abbrev pub KeepsAnswer : Bool → Shown → ℕ → Taken → Watched → Watched → Type 0
-KeepsAnswer each now number outcomes.Shown old new =
+abbrev pub KeepsOutcome : Bool → Shown → ℕ → Taken → Watched → Watched → Type 0
+KeepsOutcome each now number outcomes.Shown old new =
     KeepsOne each old.views.items now new.views.items ×
     (new ≡ record old { views = new.views })
-KeepsAnswer each now number (outcomes.Stale at) old new =
+KeepsOutcome each now number (outcomes.Stale at) old new =
     (new.stale.items ≡ old.stale.items ++ (number, at) ∷ []) ×
     (new ≡ record old { stale = new.stale })
 
 -- what a client that shows s shows after an answer, or nothing where the answer is stale
 abbrev pub shown_one : Shown → SentAnswer → List Shown
-shown_one s a = if fits s a then taken unicode_columns s a ∷ [] else []
+shown_one s a = if fits s a then shown_after unicode_columns s a ∷ [] else []
 
 -- what is shown after each of these in turn
 abbrev pub shown_each : Shown → List SentAnswer → List Shown
 shown_each s [] = []
-shown_each s (a ∷ more) = shown_one s a ++ shown_each (taken unicode_columns s a) more
+shown_each s (a ∷ more) = shown_one s a ++ shown_each (shown_after unicode_columns s a) more
 
 -- the number of a stale answer, and where in it what doesn't fit begins
 abbrev pub stale_one : ℕ → Shown → SentAnswer → List (ℕ × ℕ)
@@ -60,7 +60,8 @@ stale_one n s a = if fits s a then [] else (n, stale_place s a) ∷ []
 -- of each of these, the first of which has the number n
 abbrev pub stale_each : ℕ → Shown → List SentAnswer → List (ℕ × ℕ)
 stale_each n s [] = []
-stale_each n s (a ∷ more) = stale_one n s a ++ stale_each (n + 1) (taken unicode_columns s a) more
+stale_each n s (a ∷ more) =
+    stale_one n s a ++ stale_each (n + 1) (shown_after unicode_columns s a) more
 
 module _ (limits : Limits) where
   -- no answer is taken from the front of these bytes

@@ -1,7 +1,7 @@
 //! How a session ends before all is done, and what each session reads and writes by.
 ghost use Rattle.std.specs.Prelude.{◌≡◌, ◌⊎◌, IfOk, IfSome, IfErr, OnOk};
 ghost use Rattle.std.specs.Io.KnownBytes.{Appends};
-ghost use Rattle.sessions.specs.Status.{status_of};
+ghost use Rattle.sessions.specs.Status.{exit_status};
 ghost use Rattle.sessions.specs.Writing.{AppendsSome};
 
 use crate::script::ScriptError;
@@ -53,7 +53,7 @@ impl SessionError {
     /// that it takes.
     pub fn report<E: Write>(self, usage: &str, err: &mut E) -> u8
         ensures statuses { (result ≡ 2) ⊎ (result ≡ 3) }
-        ensures status { (result ≡ status_of self) ⊎ (result ≡ status_of SessionError.Write) }
+        ensures status { (result ≡ exit_status self) ⊎ (result ≡ exit_status SessionError.Write) }
     {
         let written = match self {
             SessionError::Usage => writeln!(err, "usage: {usage}"),
@@ -69,7 +69,7 @@ impl SessionError {
     }
 
     fn status(self) -> u8
-        ensures { result ≡ status_of self }
+        ensures { result ≡ exit_status self }
     {
         match self {
             SessionError::Usage | SessionError::Unreadable | SessionError::BadCommand(_) => 2,
@@ -101,7 +101,7 @@ pub fn write<L: Display + Drop, O: Write>(
     lines: L,
     out: &mut O,
 ) -> Result<(), SessionError>
-    ensures failed { IfErr result (λ error. status_of error ≡ 3) }
+    ensures failed { IfErr result (λ error. exit_status error ≡ 3) }
     ensures written { OnOk result (IfSome (L.output lines)
         (Appends (O.contents out.old) (O.contents out.new))) }
     ensures begun { IfSome (L.output lines)
@@ -113,7 +113,7 @@ pub fn write<L: Display + Drop, O: Write>(
 
 /// Writes all the bytes. Where that fails, a beginning of them may be written.
 pub(crate) fn write_bytes<O: Write>(bytes: &[u8], out: &mut O) -> Result<(), SessionError>
-    ensures failed { IfErr result (λ error. status_of error ≡ 3) }
+    ensures failed { IfErr result (λ error. exit_status error ≡ 3) }
     ensures written { OnOk result (Appends (O.contents out.old) (O.contents out.new) bytes.now) }
     ensures begun { AppendsSome (O.contents out.old) (O.contents out.new) bytes.now }
 {

@@ -2,7 +2,7 @@
 ghost use Rattle.std.specs.Prelude.{◌≡◌, ◌<◌, IfOk};
 ghost use Rattle.std.specs.List.{All};
 ghost use Rattle.sessions.specs.Pipe.{IsPiped};
-ghost use Rattle.sessions.specs.Sending.{IsSendInRange, bytes_of, stream_sent};
+ghost use Rattle.sessions.specs.Sending.{IsSendInRange, bytes_sent, stream_sent};
 ghost use Rattle.termwiz_surface.specs.{IsSurfaceSize};
 
 use crate::ending::SessionError;
@@ -49,7 +49,7 @@ pub fn stream(alloc: Global, outcomes: &[SendOutcome]) -> Result<Vec<u8>, AllocE
 
 // The bytes that were sent, where any were.
 fn bytes_of(outcome: &SendOutcome) -> &[u8]
-    ensures { result.now ≡ bytes_of outcome.now }
+    ensures { result.now ≡ bytes_sent outcome.now }
 {
     match outcome {
         SendOutcome::Of(_) => &[],

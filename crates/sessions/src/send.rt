@@ -3,12 +3,12 @@ ghost use Rattle.std.specs.Prelude.{◌≡◌, ◌⊎◌, IfErr, IfOk, IfSome, I
 ghost use Rattle.std.specs.Io.KnownBytes.{Appends};
 ghost use Rattle.std.specs.List.{All};
 ghost use Rattle.sessions.specs.Answering.{AnswersAsAsked, AnswersFirstAsAsked};
-ghost use Rattle.sessions.specs.Sending.{IsSendInRange, bytes_of, stream_sent};
+ghost use Rattle.sessions.specs.Sending.{IsSendInRange, bytes_sent, stream_sent};
 ghost use Rattle.sessions.specs.Saying.{SaysSend};
 ghost use Rattle.sessions.specs.SendRun.{BeginsRun, IsSendRun, WritesRun};
 ghost use Rattle.sessions.specs.Words.{AreRunWords, AreSendWords, IsInteractive};
 ghost use Rattle.sessions.specs.Lines.{Say};
-ghost use Rattle.sessions.specs.Status.{status_of};
+ghost use Rattle.sessions.specs.Status.{exit_status};
 ghost use Rattle.sessions.specs.Writing.{AppendsSome};
 
 mod answering;
@@ -135,7 +135,7 @@ fn answer<R: Read, O: Write, E: Write>(
         (R.remaining input.old) (O.contents out.old) (O.contents out.new)) }
     ensures begun { (out.new ≡ out.old) ⊎ AnswersFirstAsAsked words.now (R.remaining input.old)
         (AppendsSome (O.contents out.old) (O.contents out.new)) }
-    ensures stopped { IfErr result (λ error. status_of error ≡ 2 →
+    ensures stopped { IfErr result (λ error. exit_status error ≡ 2 →
         (out.new ≡ out.old) ⊎ AnswersFirstAsAsked words.now (R.remaining input.old)
         (Appends (O.contents out.old) (O.contents out.new))) }
 {
@@ -180,7 +180,7 @@ fn send_each<O: Write, E: Write>(
     out: &mut O,
     err: &mut E,
 ) -> Result<(), SessionError>
-    ensures failed { IfErr result (λ error. status_of error ≡ 3) }
+    ensures failed { IfErr result (λ error. exit_status error ≡ 3) }
     ensures sent { OnOk result (
         Appends (O.contents out.old) (O.contents out.new) (stream_sent outcomes.now)) }
     ensures begun { AppendsSome (O.contents out.old) (O.contents out.new)
@@ -199,10 +199,10 @@ pub(crate) fn send_one<O: Write, E: Write>(
     out: &mut O,
     err: &mut E,
 ) -> Result<(), SessionError>
-    ensures failed { IfErr result (λ error. status_of error ≡ 3) }
+    ensures failed { IfErr result (λ error. exit_status error ≡ 3) }
     ensures sent { OnOk result (
-        Appends (O.contents out.old) (O.contents out.new) (bytes_of outcome.now)) }
-    ensures begun { AppendsSome (O.contents out.old) (O.contents out.new) (bytes_of outcome.now) }
+        Appends (O.contents out.old) (O.contents out.new) (bytes_sent outcome.now)) }
+    ensures begun { AppendsSome (O.contents out.old) (O.contents out.new) (bytes_sent outcome.now) }
 {
     match outcome {
         SendOutcome::Of(outcome) => write(alloc, Printed(outcome), err),
@@ -212,7 +212,7 @@ pub(crate) fn send_one<O: Write, E: Write>(
 
 /// Writes an answer's bytes, and lets them go.
 fn send<O: Write>(bytes: &[u8], out: &mut O) -> Result<(), SessionError>
-    ensures failed { IfErr result (λ error. status_of error ≡ 3) }
+    ensures failed { IfErr result (λ error. exit_status error ≡ 3) }
     ensures sent { OnOk result (Appends (O.contents out.old) (O.contents out.new) bytes.now) }
     ensures begun { AppendsSome (O.contents out.old) (O.contents out.new) bytes.now }
 {

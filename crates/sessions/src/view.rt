@@ -2,7 +2,7 @@
 ghost use Rattle.std.specs.Prelude.{◌≡◌, ◌⊎◌, IfErr, IfOk, IsErr};
 ghost use Rattle.sessions.specs.Events.{AreInRange};
 ghost use Rattle.sessions.specs.Size.{AreSizes};
-ghost use Rattle.sessions.specs.Status.{status_of};
+ghost use Rattle.sessions.specs.Status.{exit_status};
 ghost use Rattle.sessions.specs.ViewRun.{IsViewRun};
 
 pub mod runs;
@@ -75,7 +75,7 @@ fn events<R: Read>(alloc: Global, input: &mut R) -> Result<Events, SessionError>
 
 /// Prints each outcome in turn.
 fn print<O: Write>(alloc: Global, outcomes: &Outcomes, out: &mut O) -> Result<(), SessionError>
-    ensures { IfErr result (λ error. status_of error ≡ 3) }
+    ensures { IfErr result (λ error. exit_status error ≡ 3) }
 {
     match outcomes {
         Outcomes::OfOne(outcomes) => print_each(alloc, outcomes.as_slice(), out)?,
@@ -89,7 +89,7 @@ fn print_each<O: Write>(
     outcomes: &[Outcome],
     out: &mut O,
 ) -> Result<(), SessionError>
-    ensures { IfErr result (λ error. status_of error ≡ 3) }
+    ensures { IfErr result (λ error. exit_status error ≡ 3) }
 {
     for outcome in outcomes {
         write(alloc, Printed(outcome), out)?;
@@ -102,7 +102,7 @@ fn print_each_of_many<O: Write>(
     outcomes: &[ManyOutcome],
     out: &mut O,
 ) -> Result<(), SessionError>
-    ensures { IfErr result (λ error. status_of error ≡ 3) }
+    ensures { IfErr result (λ error. exit_status error ≡ 3) }
 {
     for outcome in outcomes {
         write(alloc, PrintedMany(outcome), out)?;

@@ -71,7 +71,7 @@ pub use Rattle.termwiz_screen.specs.Place.{cursor_at, moved, place_column, place
 pub use Rattle.termwiz_screen.specs.Print.{piece_of, printed_cell, scrolled}
 pub use Rattle.termwiz_screen.specs.RegionValue.{region_value}
 pub use Rattle.termwiz_screen.specs.RepaintLaws.{LineEntriesGiveRow, RepaintGivesScreen, RepaintIsShort}
-pub use Rattle.termwiz_screen.specs.Resized.{HaveGrown, Undoes, can_undo, cuts_in_place, grown, in_width, is_vector_of, resized_flags, resized_stored, undone}
+pub use Rattle.termwiz_screen.specs.Resized.{HaveGrown, Undoes, can_undo, cuts_in_place, in_width, is_vector_of, resized_flags, resized_stored, undone, widened_line}
 pub use Rattle.termwiz_screen.specs.Rows.{AreFilled, ArePartly, ArePartlyReset, IsPartly, painted_in}
 pub use Rattle.termwiz_screen.specs.Runs.{AreNarrow, AreWide, IsMeasuredPiece, IsNarrowRun, IsWideRun}
 pub use Rattle.termwiz_screen.specs.Screen.{row_at}

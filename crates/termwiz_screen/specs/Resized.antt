@@ -34,8 +34,8 @@ abbrev pub cuts_in_place : ℕ → LineValue → Bool
 cuts_in_place w l = l.is_vector && nat_le w (length l.cells)
 
 -- what comes before it is cut: any other line takes the width
-abbrev pub grown : ℕ → LineValue → LineValue
-grown w l = if cuts_in_place w l then l else in_width w l
+abbrev pub widened_line : ℕ → LineValue → LineValue
+widened_line w l = if cuts_in_place w l then l else in_width w l
 
 -- whether a line is a vector of k cells
 abbrev pub is_vector_of : ℕ → LineValue → Bool
@@ -59,7 +59,7 @@ undone (Put text) l = text.value
 -- the first rows have grown to width w, as many as have an undo
 pub record HaveGrown (w : ℕ) (old : List LineValue) (undos : List Undo) (new : List LineValue) :
     Type 0 where
-  pub rows : new ≡ map (grown w) (take (length undos) old) ++ drop (length undos) old
+  pub rows : new ≡ map (widened_line w) (take (length undos) old) ++ drop (length undos) old
   pub each :
       (j : ℕ) (l : LineValue) (u : Undo) → j < length undos →
       Undoes (slice_index_or old j l) (slice_index_or undos j u)

@@ -26,7 +26,7 @@ use Rattle.termwiz_wire.specs.declared.sent.Ask.{Ask}
 use Rattle.std.specs.Result.{is_err}
 use Rattle.termwiz_share.specs.Responses.{HasDelta, HasRepaint, HasResponses}
 use Rattle.termwiz_share.specs.declared.responses.Responses.{Responses}
-use Rattle.termwiz_share.specs.Source.{Answers, IsResponse, PutsDelta, Responds, SourceValue, bytes_of, given_for, is_worth, most_bytes, number_asked, repaint_of, response_bytes, sent_by, trimmed}
+use Rattle.termwiz_share.specs.Source.{Answers, IsResponse, PutsDelta, Responds, SourceValue, bytes_of, given_for, is_worth, most_bytes, number_asked, repaint_answer, response_bytes, sent_by, trimmed_surface}
 
 abbrev with_base : AnswerValue → ℕ → AnswerValue
 with_base a b = record a { base = b }
@@ -39,7 +39,7 @@ none_known : {W : Type 0} (s : SurfaceValue W) (n : ℕ) → n ≡ 0 → knows s
 none_known s n z = rw z refl
 
 -- what a surface gives for no number is its repaint
-pub made_repaint : {W : Type 0} (f : W → List ℕ → ℕ) (s : SurfaceValue W) (given : AnswerValue) → IsGivenBy full_screens f s 0 given → (knows s 0 ≡ false → given.changes ≡ own_repaint s) → given ≡ repaint_of s
+pub made_repaint : {W : Type 0} (f : W → List ℕ → ℕ) (s : SurfaceValue W) (given : AnswerValue) → IsGivenBy full_screens f s 0 given → (knows s 0 ≡ false → given.changes ≡ own_repaint s) → given ≡ repaint_answer s
 made_repaint f s given is entries =
     let none : knows s 0 ≡ false = none_known s 0 refl in
     same_answer given s.width s.height 0 (next_number s.log) (own_repaint s) is.width is.height (is.repaint none).0 is.number (entries none)
@@ -73,21 +73,21 @@ module _ {W : Type 0} (f : W → List ℕ → ℕ) (s : SourceValue W) (n : ℕ)
   for_short : knows s.surface n ≡ true → len ≤ few_bytes → effort ≤ few_steps → given_for f s n ≡ delta
   for_short known few easy = rw (known, le-leb len few_bytes few, le-leb effort few_steps easy) refl
 
-  for_long : few_bytes < len → given_for f s n ≡ repaint_of s.surface
-  for_long long = ap (λ (l : Bool). chosen (knows s.surface n) (l && nat_le effort few_steps) delta (repaint_of s.surface)) (lt-leb len few_bytes long) ∙ unless delta (repaint_of s.surface) (knows s.surface n) false refl
+  for_long : few_bytes < len → given_for f s n ≡ repaint_answer s.surface
+  for_long long = ap (λ (l : Bool). chosen (knows s.surface n) (l && nat_le effort few_steps) delta (repaint_answer s.surface)) (lt-leb len few_bytes long) ∙ unless delta (repaint_answer s.surface) (knows s.surface n) false refl
 
-  for_hard : few_steps < effort → given_for f s n ≡ repaint_of s.surface
-  for_hard hard = ap (λ (l : Bool). chosen (knows s.surface n) (nat_le len few_bytes && l) delta (repaint_of s.surface)) (lt-leb effort few_steps hard) ∙ unless delta (repaint_of s.surface) (knows s.surface n) (nat_le len few_bytes && false) (never (nat_le len few_bytes))
+  for_hard : few_steps < effort → given_for f s n ≡ repaint_answer s.surface
+  for_hard hard = ap (λ (l : Bool). chosen (knows s.surface n) (nat_le len few_bytes && l) delta (repaint_answer s.surface)) (lt-leb effort few_steps hard) ∙ unless delta (repaint_answer s.surface) (knows s.surface n) (nat_le len few_bytes && false) (never (nat_le len few_bytes))
     where
       never : (b : Bool) → (b && false) ≡ false
       never true = refl
       never false = refl
 
-  for_unknown : knows s.surface n ≡ false → given_for f s n ≡ repaint_of s.surface
-  for_unknown un = ap (λ (k : Bool). chosen k (is_worth f s delta) delta (repaint_of s.surface)) un
+  for_unknown : knows s.surface n ≡ false → given_for f s n ≡ repaint_answer s.surface
+  for_unknown un = ap (λ (k : Bool). chosen k (is_worth f s delta) delta (repaint_answer s.surface)) un
 
 -- a full surface bears its repaint
-pub repaint_borne : {W : Type 0} (f : W → List ℕ → ℕ) (s : SourceValue W) → s.surface.full ≡ true → IsPrintable (f s.surface.widths) (screen_of s.surface) → IsBorne (sent_by s.number (repaint_of s.surface))
+pub repaint_borne : {W : Type 0} (f : W → List ℕ → ℕ) (s : SourceValue W) → s.surface.full ≡ true → IsPrintable (f s.surface.widths) (screen_of s.surface) → IsBorne (sent_by s.number (repaint_answer s.surface))
 repaint_borne f s full printable = rw full (full_repaint_borne (f s.surface.widths) (full_of s.surface) printable)
 
 module _ {W : Type 0} (f : W → List ℕ → ℕ) (s : SourceValue W) (n : ℕ) (sized : HasFullSize s.surface.width s.surface.height (full_of s.surface)) where
@@ -106,20 +106,20 @@ module _ {W : Type 0} (f : W → List ℕ → ℕ) (s : SourceValue W) (n : ℕ)
           repaint = λ un. absurd (true≢false (sym puts.0 ∙ un));
         };
         sized = sized;
-        few = omega (arith, few, le-max_left (most_bytes s.surface.width s.surface.height) (length (bytes_of f s (repaint_of s.surface))));
+        few = omega (arith, few, le-max_left (most_bytes s.surface.width s.surface.height) (length (bytes_of f s (repaint_answer s.surface))));
         chosen = sym (for_short f s n puts.0 few puts.2);
         borne = puts.2;
       }
 
   -- and any other gives way to the repaint
   gives_way : (most : ℕ) → most ≡ min (most_bytes s.surface.width s.surface.height) (2 ^ 64 - 1) → ((knows s.surface n ≡ false) ⊎ (most_work s.surface.width s.surface.height < answer_work (sent_by s.number (delta_of s.surface n))) ⊎ ((most < length (bytes_of f s (delta_of s.surface n))) × (most < 2 ^ 64 - 1)))
-      → given_for f s n ≡ repaint_of s.surface
+      → given_for f s n ≡ repaint_answer s.surface
   gives_way most is (inl un) = for_unknown f s n un
   gives_way most is (inr (inl hard)) = for_hard f s n hard
   gives_way most is (inr (inr long)) = for_long f s n (omega (arith, long.0, long.1, is))
 
   pub answers_repaint : (before after : List ℕ) (most : ℕ) → most ≡ min (most_bytes s.surface.width s.surface.height) (2 ^ 64 - 1) → PutsDelta f s n most before false after → s.surface.full ≡ true → IsSound (f s.surface.widths) s.surface → f s.surface.widths space ≡ 1 → IsPrintable (f s.surface.widths) (screen_of s.surface)
-      → Answers f s n (repaint_of s.surface)
+      → Answers f s n (repaint_answer s.surface)
   answers_repaint before after most is puts full sound one printable = record {
     asked = 0;
     from = inl refl;
@@ -131,7 +131,7 @@ module _ {W : Type 0} (f : W → List ℕ → ℕ) (s : SourceValue W) (n : ℕ)
       repaint = λ un. (refl, λ t same. rw full (sound_full_repaint (f s.surface.widths) s.surface sound one t same));
     };
     sized = sized;
-    few = le-max_right (most_bytes s.surface.width s.surface.height) (length (bytes_of f s (repaint_of s.surface)));
+    few = le-max_right (most_bytes s.surface.width s.surface.height) (length (bytes_of f s (repaint_answer s.surface)));
     chosen = sym (gives_way most is puts.1);
     borne = repaint_borne f s full printable;
   }
@@ -142,15 +142,15 @@ AnswersAlike s t = (n : ℕ) → (knows t n ≡ knows s n) × (knows s n ≡ tru
 
 module _ {W : Type 0} (s : SourceValue W) where
   abbrev now : SourceValue W
-  now = record { surface = trimmed s.surface; number = s.number }
+  now = record { surface = trimmed_surface s.surface; number = s.number }
 
   number_same : next_number now.surface.log ≡ next_number s.surface.log
   number_same = flushed_number s.surface.log (next_number s.surface.log - delta_limit s.surface.width s.surface.height)
 
-  repaint_alike : repaint_of now.surface ≡ repaint_of s.surface
+  repaint_alike : repaint_answer now.surface ≡ repaint_answer s.surface
   repaint_alike = ap (λ (k : ℕ). record { width = s.surface.width; height = s.surface.height; base = 0; number = k; changes = own_repaint s.surface }) number_same
 
-module _ {W : Type 0} (f : W → List ℕ → ℕ) (s : SourceValue W) (alike : AnswersAlike s.surface (trimmed s.surface)) (n : ℕ) where
+module _ {W : Type 0} (f : W → List ℕ → ℕ) (s : SourceValue W) (alike : AnswersAlike s.surface (trimmed_surface s.surface)) (n : ℕ) where
   -- the same is due from a number on, and given for it, by the surface that forgetting leaves
   delta_alike : knows s.surface n ≡ true → delta_of (now s).surface n ≡ delta_of s.surface n
   delta_alike known = ap₂ (λ (k : ℕ) (cs : List ChangeValue). record { width = s.surface.width; height = s.surface.height; base = n; number = k; changes = cs }) (number_same s) ((alike n).1 known)
@@ -158,7 +158,7 @@ module _ {W : Type 0} (f : W → List ℕ → ℕ) (s : SourceValue W) (alike : 
   given_alike : given_for f (now s) n ≡ given_for f s n
   given_alike = elim (cases_Bool (knows s.surface n)) [
     | inr un ↦ for_unknown f (now s) n ((alike n).0 ∙ un) ∙ repaint_alike s ∙ sym (for_unknown f s n un)
-    | inl known ↦ ap₂ (λ (k : Bool) (d : AnswerValue). chosen k (is_worth f s d) d (repaint_of (now s).surface)) (alike n).0 (delta_alike known) ∙ ap (λ (r : AnswerValue). chosen (knows s.surface n) (is_worth f s (delta_of s.surface n)) (delta_of s.surface n) r) (repaint_alike s)
+    | inl known ↦ ap₂ (λ (k : Bool) (d : AnswerValue). chosen k (is_worth f s d) d (repaint_answer (now s).surface)) (alike n).0 (delta_alike known) ∙ ap (λ (r : AnswerValue). chosen (knows s.surface n) (is_worth f s (delta_of s.surface n)) (delta_of s.surface n) r) (repaint_alike s)
   ]
 
   -- and the answer is that
@@ -166,7 +166,7 @@ module _ {W : Type 0} (f : W → List ℕ → ℕ) (s : SourceValue W) (alike : 
   is_given_for given a = a.chosen ∙ sym given_alike
 
 -- so its answer is a response then
-module _ {W : Type 0} (f : W → List ℕ → ℕ) (s : SourceValue W) (alike : AnswersAlike s.surface (trimmed s.surface)) (ask : Ask) (n : ℕ) (from : (n ≡ 0) ⊎ ((ask.source ≡ s.number) × (n ≡ ask.number))) (given : AnswerValue) (a : Answers f s n given) where
+module _ {W : Type 0} (f : W → List ℕ → ℕ) (s : SourceValue W) (alike : AnswersAlike s.surface (trimmed_surface s.surface)) (ask : Ask) (n : ℕ) (from : (n ≡ 0) ⊎ ((ask.source ≡ s.number) × (n ≡ ask.number))) (given : AnswerValue) (a : Answers f s n given) where
   given_now : IsGivenBy full_screens f (now s).surface a.asked given
   given_now = record {
     width = a.is_given.width;
@@ -213,14 +213,14 @@ named_by source ask n is = elim (cases_Bool (ask.source == source)) [
 ]
 
 -- the bytes that are kept of the repaint are those of the surface that forgetting leaves
-pub keeps_repaint : {W : Type 0} (f : W → List ℕ → ℕ) (s : SourceValue W) (t : SurfaceValue W) (bytes : List ℕ) → t ≡ trimmed s.surface → HasRepaint f s bytes → HasRepaint f (record { surface = t; number = s.number }) bytes
+pub keeps_repaint : {W : Type 0} (f : W → List ℕ → ℕ) (s : SourceValue W) (t : SurfaceValue W) (bytes : List ℕ) → t ≡ trimmed_surface s.surface → HasRepaint f s bytes → HasRepaint f (record { surface = t; number = s.number }) bytes
 keeps_repaint f s t bytes same (inl none) = inl none
 keeps_repaint f s t bytes same (inr has) = subst (λ (v : SurfaceValue _). HasRepaint f (record { surface = v; number = s.number }) bytes) (sym same) (inr (
   has.0 ∙ ap (bytes_of f s) (sym (repaint_alike s)),
   subst (λ (a : AnswerValue). IsSent (f s.surface.widths) (sent_by s.number a)) (sym (repaint_alike s)) has.1,
 ))
 
-module _ {W : Type 0} (f : W → List ℕ → ℕ) (s : SourceValue W) (alike : AnswersAlike s.surface (trimmed s.surface)) (n most : ℕ) (bytes : List ℕ) where
+module _ {W : Type 0} (f : W → List ℕ → ℕ) (s : SourceValue W) (alike : AnswersAlike s.surface (trimmed_surface s.surface)) (n most : ℕ) (bytes : List ℕ) where
   delta_stays : PutsDelta f s n most [] true bytes → PutsDelta f (now s) n most [] true bytes
   delta_stays is =
       let same = sym (delta_alike f s alike n is.0) in (
@@ -231,12 +231,12 @@ module _ {W : Type 0} (f : W → List ℕ → ℕ) (s : SourceValue W) (alike : 
         is.4 ∙ ap (bytes_of f s) same,
       )
 
-keeps_delta : {W : Type 0} (f : W → List ℕ → ℕ) (s : SourceValue W) (t : SurfaceValue W) (n : ℕ) (bytes : List ℕ) → t ≡ trimmed s.surface → AnswersAlike s.surface t → HasDelta f s n bytes → HasDelta f (record { surface = t; number = s.number }) n bytes
+keeps_delta : {W : Type 0} (f : W → List ℕ → ℕ) (s : SourceValue W) (t : SurfaceValue W) (n : ℕ) (bytes : List ℕ) → t ≡ trimmed_surface s.surface → AnswersAlike s.surface t → HasDelta f s n bytes → HasDelta f (record { surface = t; number = s.number }) n bytes
 keeps_delta f s t n bytes same alike (inl none) = inl none
 keeps_delta f s t n bytes same alike (inr is) = subst (λ (v : SurfaceValue _). HasDelta f (record { surface = v; number = s.number }) n bytes) (sym same) (inr (delta_stays f s (subst (AnswersAlike s.surface) same alike) n (min (most_bytes s.surface.width s.surface.height) (2 ^ 64 - 1)) bytes is))
 
 -- the answers that are kept are those of the surface that forgetting leaves
-pub keeps_responses : {W : Type 0} (f : W → List ℕ → ℕ) (s : SourceValue W) (t : SurfaceValue W) (r : Responses) → t ≡ trimmed s.surface → AnswersAlike s.surface t → HasResponses f s r → HasResponses f (record { surface = t; number = s.number }) r
+pub keeps_responses : {W : Type 0} (f : W → List ℕ → ℕ) (s : SourceValue W) (t : SurfaceValue W) (r : Responses) → t ≡ trimmed_surface s.surface → AnswersAlike s.surface t → HasResponses f s r → HasResponses f (record { surface = t; number = s.number }) r
 keeps_responses f s t r same alike has = (keeps_delta f s t r.from r.delta.items same alike has.0, keeps_repaint f s t r.repaint.items same has.1)
 
 -- what is kept once a delta was made, or none was
@@ -255,17 +255,17 @@ pub something : (xs : List ℕ) (len : ℕ) (is_empty : Bool) → len ≡ length
 something xs len is_empty count test e none = true≢false (sym (eq-eqb len 0 (count ∙ ap length none)) ∙ sym test ∙ e)
 
 -- the bytes of what is given are the response's
-pub response_is : {W : Type 0} (f : W → List ℕ → ℕ) (s : SourceValue W) (t : SurfaceValue W) (ask : Ask) (n : ℕ) (given : AnswerValue) → t ≡ trimmed s.surface → AnswersAlike s.surface t → number_asked s.number ask ≡ n → Answers f s n given → (before after : List ℕ) → after ≡ before ++ bytes_of f s given → after ≡ before ++ response_bytes f (record { surface = t; number = s.number }) ask
+pub response_is : {W : Type 0} (f : W → List ℕ → ℕ) (s : SourceValue W) (t : SurfaceValue W) (ask : Ask) (n : ℕ) (given : AnswerValue) → t ≡ trimmed_surface s.surface → AnswersAlike s.surface t → number_asked s.number ask ≡ n → Answers f s n given → (before after : List ℕ) → after ≡ before ++ bytes_of f s given → after ≡ before ++ response_bytes f (record { surface = t; number = s.number }) ask
 response_is f s t ask n given same alike asked a before after whole =
-    let is : given ≡ given_for f (record { surface = trimmed s.surface; number = s.number }) n = is_given_for f s (subst (AnswersAlike s.surface) same alike) n given a in
+    let is : given ≡ given_for f (record { surface = trimmed_surface s.surface; number = s.number }) n = is_given_for f s (subst (AnswersAlike s.surface) same alike) n given a in
     let is_now : given ≡ given_for f (record { surface = t; number = s.number }) (number_asked s.number ask) = is ∙ ap₂ (λ (v : SurfaceValue _) (k : ℕ). given_for f (record { surface = v; number = s.number }) k) (sym same) (sym asked) in
     whole ∙ ap (λ (b : List ℕ). before ++ b) (ap (bytes_of f s) is_now ∙ ap (λ (v : SurfaceValue _). bytes_of f (record { surface = v; number = s.number }) (given_for f (record { surface = t; number = s.number }) (number_asked s.number ask))) (sym same))
 
 -- the bytes of what is given are the response's, also of the surface that forgetting leaves
-pub response_of : {W : Type 0} (f : W → List ℕ → ℕ) (s : SourceValue W) (t : SurfaceValue W) (ask : Ask) (n : ℕ) (given : AnswerValue) → t ≡ trimmed s.surface → AnswersAlike s.surface t → (n ≡ 0) ⊎ ((ask.source ≡ s.number) × (n ≡ ask.number)) → Answers f s n given → (before after : List ℕ) → after ≡ before ++ answer (f s.surface.widths) (sent_by s.number given) → IsSent (f s.surface.widths) (sent_by s.number given) → Responds f (record { surface = t; number = s.number }) ask before after
+pub response_of : {W : Type 0} (f : W → List ℕ → ℕ) (s : SourceValue W) (t : SurfaceValue W) (ask : Ask) (n : ℕ) (given : AnswerValue) → t ≡ trimmed_surface s.surface → AnswersAlike s.surface t → (n ≡ 0) ⊎ ((ask.source ≡ s.number) × (n ≡ ask.number)) → Answers f s n given → (before after : List ℕ) → after ≡ before ++ answer (f s.surface.widths) (sent_by s.number given) → IsSent (f s.surface.widths) (sent_by s.number given) → Responds f (record { surface = t; number = s.number }) ask before after
 response_of f s t ask n given same alike from a before after whole sent =
     let bytes : List ℕ = answer (f s.surface.widths) (sent_by s.number given) in
-    let response : IsResponse f (record { surface = trimmed s.surface; number = s.number }) ask bytes = is_response f s (subst (AnswersAlike s.surface) same alike) ask n from given a bytes refl sent in
+    let response : IsResponse f (record { surface = trimmed_surface s.surface; number = s.number }) ask bytes = is_response f s (subst (AnswersAlike s.surface) same alike) ask n from given a bytes refl sent in
     record { bytes = bytes; appended = whole; response = subst (λ (v : SurfaceValue _). IsResponse f (record { surface = v; number = s.number }) ask bytes) (sym same) response }
 
 -- bytes that begin with all that they began with are those and more
@@ -299,6 +299,6 @@ module _ {W : Type 0} (f : W → List ℕ → ℕ) (s : SourceValue W) (n most :
       (subst (λ (a : AnswerValue). IfOk r (λ within. within ≡ true → IsSent (f s.surface.widths) (sent_by s.number a))) is sent)
 
 -- bytes that are kept are the repaint's
-pub kept_repaint : {W : Type 0} (f : W → List ℕ → ℕ) (s : SourceValue W) (bytes : List ℕ) → HasRepaint f s bytes → (bytes ≡ [] → ⊥) → (bytes ≡ bytes_of f s (repaint_of s.surface)) × IsSent (f s.surface.widths) (sent_by s.number (repaint_of s.surface))
+pub kept_repaint : {W : Type 0} (f : W → List ℕ → ℕ) (s : SourceValue W) (bytes : List ℕ) → HasRepaint f s bytes → (bytes ≡ [] → ⊥) → (bytes ≡ bytes_of f s (repaint_answer s.surface)) × IsSent (f s.surface.widths) (sent_by s.number (repaint_answer s.surface))
 kept_repaint f s bytes (inl none) some = absurd (some none)
 kept_repaint f s bytes (inr has) some = has

@@ -25,25 +25,25 @@ use Rattle.termwiz_share.specs.declared.error.ClientError.{ClientError}
 use Rattle.termwiz_share.specs.declared.error.ClientError.TheVariants as errors
 use Rattle.termwiz_share.specs.declared.taken.Taken.{Taken}
 use Rattle.termwiz_share.specs.declared.taken.Taken.TheVariants as shows
-use Rattle.termwiz_share.specs.Client.{ClientValue, SameSettings, Shown, blank_screen, fits, has_other_size, shown_by, stale_place, taken}
+use Rattle.termwiz_share.specs.Client.{ClientValue, SameSettings, Shown, blank_screen, fits, has_other_size, shown_after, shown_by, stale_place}
 use Rattle.termwiz_share.specs.Feeding.{AreCut, EndsAfter, Feeds, HasTaken, TakesNextOrNone, TakesAll, TakesNext, with_bytes}
-use Rattle.termwiz_wire.specs.MoreBytes.{IsCut, Laws}
+use Rattle.termwiz_wire.specs.MoreBytes.{IsTruncated, Laws}
 use Rattle.termwiz_share.specs.Histories.{ClientFollows, FollowsNext, ClientFollowsTo, Given, ClientHasFollowed, HasKept, HasMore, HasStopped, HasTakenFirst, IsGenuine, IsPictureNamed, after, after_all, stream}
 use Rattle.termwiz_share.proofs.Streams.{AreAgain, Decodes, no_fault, none_whole, others_of}
 
 -- one more answer at the end
-pub TakesAll-push : (m : List ℕ → ℕ) (limits : Limits) (s : Shown) (bytes : List ℕ) (given : List SentAnswer) (t : Shown) (rest : List ℕ) (a : SentAnswer) (next : List ℕ) → TakesAll m limits s bytes given t rest → answer_at m limits rest ≡ Ok (a, next) → has_other_size t a ≡ false → TakesAll m limits s bytes (given ++ a ∷ []) (taken m t a) next
-TakesAll-push m limits s bytes [] t rest a next d is size = (next, ap (answer_at m limits) d.0 ∙ is, subst (λ (v : Shown). has_other_size v a ≡ false) d.1 size, (refl, ap (λ (v : Shown). taken m v a) d.1))
-TakesAll-push m limits s bytes (b ∷ more) t rest a next d is size = (d.0, d.1, d.2, TakesAll-push m limits (taken m s b) d.0 more t rest a next d.3 is size)
+pub TakesAll-push : (m : List ℕ → ℕ) (limits : Limits) (s : Shown) (bytes : List ℕ) (given : List SentAnswer) (t : Shown) (rest : List ℕ) (a : SentAnswer) (next : List ℕ) → TakesAll m limits s bytes given t rest → answer_at m limits rest ≡ Ok (a, next) → has_other_size t a ≡ false → TakesAll m limits s bytes (given ++ a ∷ []) (shown_after m t a) next
+TakesAll-push m limits s bytes [] t rest a next d is size = (next, ap (answer_at m limits) d.0 ∙ is, subst (λ (v : Shown). has_other_size v a ≡ false) d.1 size, (refl, ap (λ (v : Shown). shown_after m v a) d.1))
+TakesAll-push m limits s bytes (b ∷ more) t rest a next d is size = (d.0, d.1, d.2, TakesAll-push m limits (shown_after m s b) d.0 more t rest a next d.3 is size)
 
 -- what is decoded on the way, and what is shown at the end
 pub decoded : (m : List ℕ → ℕ) (limits : Limits) (s : Shown) (bytes : List ℕ) (given : List SentAnswer) (t : Shown) (rest : List ℕ) → TakesAll m limits s bytes given t rest → Decodes (answer_at m limits) bytes given rest
 decoded m limits s bytes [] t rest d = d.0
-decoded m limits s bytes (a ∷ more) t rest d = (d.0, d.1, decoded m limits (taken m s a) d.0 more t rest d.3)
+decoded m limits s bytes (a ∷ more) t rest d = (d.0, d.1, decoded m limits (shown_after m s a) d.0 more t rest d.3)
 
-pub shown_last : (m : List ℕ → ℕ) (limits : Limits) (s : Shown) (bytes : List ℕ) (given : List SentAnswer) (t : Shown) (rest : List ℕ) → TakesAll m limits s bytes given t rest → t ≡ fold (taken m) s given
+pub shown_last : (m : List ℕ → ℕ) (limits : Limits) (s : Shown) (bytes : List ℕ) (given : List SentAnswer) (t : Shown) (rest : List ℕ) → TakesAll m limits s bytes given t rest → t ≡ fold (shown_after m) s given
 shown_last m limits s bytes [] t rest d = d.1
-shown_last m limits s bytes (a ∷ more) t rest d = shown_last m limits (taken m s a) d.0 more t rest d.3
+shown_last m limits s bytes (a ∷ more) t rest d = shown_last m limits (shown_after m s a) d.0 more t rest d.3
 
 -- a blank screen has its size
 blank_sized : (w h : ℕ) → HasFullSize w h (blank_screen w h)
@@ -96,7 +96,7 @@ module _ (m : List ℕ → ℕ) (limits : Limits) (histories : ℕ → ℕ → F
     some_base e z = true≢false (sym (ap (λ k. k == 0) z) ∙ e)
 
     -- a genuine answer is taken as what it was given for
-    pub taken_as : (taken m s g.sent ≡ after s g) × (has_other_size s g.sent ≡ false)
+    pub taken_as : (shown_after m s g.sent ≡ after s g) × (has_other_size s g.sent ≡ false)
     taken_as = elim (cases_Bool (a.base == 0)) [
       | inl none ↦ rw none (ap (λ (p : FullScreen). record { picture = p; source = g.sent.source; number = a.number }) (repaints (eqb-true a.base 0 none)), refl)
       | inr some ↦ elim (cases_Bool (g.sent.source == s.source)) [
@@ -119,12 +119,12 @@ module _ (m : List ℕ → ℕ) (limits : Limits) (histories : ℕ → ℕ → F
     ]
 
   -- all answers of a list are taken so
-  pub all_taken : (s : Shown) (given : List Given) → IsPictureNamed histories s → AllByRecursion (IsGenuine m limits histories) given → (fold (taken m) s (map (λ (g : Given). g.sent) given) ≡ after_all s given) × IsPictureNamed histories (after_all s given)
+  pub all_taken : (s : Shown) (given : List Given) → IsPictureNamed histories s → AllByRecursion (IsGenuine m limits histories) given → (fold (shown_after m) s (map (λ (g : Given). g.sent) given) ≡ after_all s given) × IsPictureNamed histories (after_all s given)
   all_taken s [] named each = (refl, named)
   all_taken s (g ∷ gs) named each =
       let one = taken_as s g named each.0 in
       let rest = all_taken (after s g) gs (named_after s g named each.0) each.1 in
-      (ap (λ (v : Shown). fold (taken m) v (map (λ (x : Given). x.sent) gs)) one.0 ∙ rest.0, rest.1)
+      (ap (λ (v : Shown). fold (shown_after m) v (map (λ (x : Given). x.sent) gs)) one.0 ∙ rest.0, rest.1)
 
 module _ (m : List ℕ → ℕ) (limits : Limits) (histories : ℕ → ℕ → FullScreen) (laws : Laws m limits) where
   abbrev bytes_of : Given → List ℕ
@@ -136,7 +136,7 @@ module _ (m : List ℕ → ℕ) (limits : Limits) (histories : ℕ → ℕ → F
   again_of : (g : Given) → IsGenuine m limits histories g → (rest : List ℕ) → answer_at m limits (bytes_of g ++ rest) ≡ Ok (g.sent, rest)
   again_of g is rest = laws.again g.sent rest is.is_sent is.within
 
-  are_again : (gs : List Given) → AllByRecursion (IsGenuine m limits histories) gs → AreAgain (answer_at m limits) IsCut bytes_of sent_of gs
+  are_again : (gs : List Given) → AllByRecursion (IsGenuine m limits histories) gs → AreAgain (answer_at m limits) IsTruncated bytes_of sent_of gs
   are_again [] each = tt
   are_again (g ∷ gs) each = (again_of g each.0, are_again gs each.1)
 
@@ -157,10 +157,10 @@ module _ (m : List ℕ → ℕ) (limits : Limits) (histories : ℕ → ℕ → F
 
   pub is_taken : (sent : List Given) (s t : Shown) (bytes future rest : List ℕ) (given : List SentAnswer) → AllByRecursion (IsGenuine m limits histories) sent → bytes ++ future ≡ stream m sent → IsPictureNamed histories s → TakesAll m limits s bytes given t rest → IsTaken sent (length given) s t (rest ++ future)
   is_taken sent s t bytes future rest given each whole named takes =
-      let h = others_of (answer_at m limits) IsCut bytes_of sent_of laws.goes bytes future sent given rest (are_again sent each) whole (decoded m limits s bytes given t rest takes) in
+      let h = others_of (answer_at m limits) IsTruncated bytes_of sent_of laws.goes bytes future sent given rest (are_again sent each) whole (decoded m limits s bytes given t rest takes) in
       let parts = front_genuine h.taken h.others (subst (AllByRecursion (IsGenuine m limits histories)) h.all each) in
       let all = all_taken m limits histories s h.taken named parts.0 in
-      let shows : t ≡ after_all s h.taken = shown_last m limits s bytes given t rest takes ∙ ap (λ (v : List SentAnswer). fold (taken m) s v) (sym h.values) ∙ all.0 in
+      let shows : t ≡ after_all s h.taken = shown_last m limits s bytes given t rest takes ∙ ap (λ (v : List SentAnswer). fold (shown_after m) s v) (sym h.values) ∙ all.0 in
       record {
         given = h.taken;
         counted = sym (length-map h.taken sent_of) ∙ ap length h.values;
@@ -174,11 +174,11 @@ module _ (m : List ℕ → ℕ) (limits : Limits) (histories : ℕ → ℕ → F
 
   pub has_more : (others : List Given) (left future : List ℕ) → AllByRecursion (IsGenuine m limits histories) others → left ++ future ≡ stream m others → AreCut m limits left → HasMore m others left
   has_more [] left future each whole cut = tt
-  has_more (g ∷ gs) left future each whole cut = none_whole (answer_at m limits) IsCut bytes_of sent_of laws.goes left future g gs cut.fault (again_of g each.0) whole cut.is
+  has_more (g ∷ gs) left future each whole cut = none_whole (answer_at m limits) IsTruncated bytes_of sent_of laws.goes left future g gs cut.fault (again_of g each.0) whole cut.is
 
   -- its next answer has no fault,
   pub no_bad : (others : List Given) (left future : List ℕ) (f : Fault) → AllByRecursion (IsGenuine m limits histories) others → left ++ future ≡ stream m others → answer_at m limits left ≡ Err f → (f.kind ≡ Truncated → ⊥) → ⊥
-  no_bad others left future f each whole is other = no_fault (answer_at m limits) IsCut bytes_of sent_of laws.goes left future others f (are_again others each) whole is other
+  no_bad others left future f each whole is other = no_fault (answer_at m limits) IsTruncated bytes_of sent_of laws.goes left future others f (are_again others each) whole is other
 
   -- an answer that is read is the first of a stream
   pub record IsFirst (sent : List Given) (a : SentAnswer) (left : List ℕ) : Type 0 where
@@ -192,7 +192,7 @@ module _ (m : List ℕ → ℕ) (limits : Limits) (histories : ℕ → ℕ → F
 
   pub first_of : (sent : List Given) (left future : List ℕ) (a : SentAnswer) (rest : List ℕ) → AllByRecursion (IsGenuine m limits histories) sent → left ++ future ≡ stream m sent → answer_at m limits left ≡ Ok (a, rest) → IsFirst sent a (rest ++ future)
   first_of sent left future a rest each whole is =
-      let one = others_of (answer_at m limits) IsCut bytes_of sent_of laws.goes left future sent (a ∷ []) rest (are_again sent each) whole (rest, is, refl) in
+      let one = others_of (answer_at m limits) IsTruncated bytes_of sent_of laws.goes left future sent (a ∷ []) rest (are_again sent each) whole (rest, is, refl) in
       with_first one.taken one.others one.values one.all one.whole
     where
       with_first : (taken others : List Given) → map sent_of taken ≡ a ∷ [] → sent ≡ taken ++ others → rest ++ future ≡ stream m others → IsFirst sent a (rest ++ future)
@@ -273,8 +273,8 @@ module _ {W : Type 0} (f : W → List ℕ → ℕ) (histories : ℕ → ℕ → 
     one : IsFirst m_now old.limits histories laws sent a (new.kept ++ future)
     one = first_of m_now old.limits histories laws sent old.kept future a new.kept follows.genuine follows.whole read
 
-    as_given : taken m_now (shown_by old) a ≡ after (shown_by old) one.first
-    as_given = ap (taken m_now (shown_by old)) (sym one.same) ∙ (taken_as m_now old.limits histories (shown_by old) one.first follows.named one.genuine).0
+    as_given : shown_after m_now (shown_by old) a ≡ after (shown_by old) one.first
+    as_given = ap (shown_after m_now (shown_by old)) (sym one.same) ∙ (taken_as m_now old.limits histories (shown_by old) one.first follows.named one.genuine).0
 
     abbrev first_taken : IsPictureNamed histories (shown_by new) → HasTakenFirst f histories sent future new
     first_taken named = record {
@@ -290,7 +290,7 @@ module _ {W : Type 0} (f : W → List ℕ → ℕ) (histories : ℕ → ℕ → 
       };
     }
 
-    taken_next : fits (shown_by old) a ≡ true → shown_by new ≡ taken m_now (shown_by old) a → FollowsNext f histories sent future old (Ok (Some shows.Shown)) new
+    taken_next : fits (shown_by old) a ≡ true → shown_by new ≡ shown_after m_now (shown_by old) a → FollowsNext f histories sent future old (Ok (Some shows.Shown)) new
     taken_next fit is =
         let shown : shown_by new ≡ after (shown_by old) one.first = is ∙ as_given in
         let named : IsPictureNamed histories (after (shown_by old) one.first) = named_after m_now old.limits histories (shown_by old) one.first follows.named one.genuine in

@@ -25,7 +25,7 @@ use Rattle.termwiz_share.specs.declared.error.ClientError.{ClientError}
 use Rattle.termwiz_share.specs.declared.error.ClientError.TheVariants as errors
 use Rattle.termwiz_share.specs.declared.taken.Taken.{Taken}
 use Rattle.termwiz_share.specs.declared.taken.Taken.TheVariants as outcomes
-use Rattle.termwiz_share.specs.Client.{ClientValue, IsReady, SameSettings, Shown, ask_of, fits, has_other_size, shown_by, taken}
+use Rattle.termwiz_share.specs.Client.{ClientValue, IsReady, SameSettings, Shown, ask_of, fits, has_other_size, shown_after, shown_by}
 use Rattle.termwiz_share.specs.Feeding.{EndsAfter, Feeds, TakesNextOrNone, TakesAll, TakesNext, with_bytes}
 use Rattle.termwiz_share.specs.Histories.{ClientFollows, FollowsNext, ClientFollowsTo, Given, ClientHasFollowed, HasKept, HasMore, HasStopped, IsGenuine, IsPictureNamed, after, after_all, stream}
 use Rattle.termwiz_share.specs.Serving.{KeepsClients, PreservesServing, Serves, ShowsSource}
@@ -198,7 +198,7 @@ module _ {W : Type 0} (f : W → List ℕ → ℕ) (s : SourceValue W) (c : Clie
       record { picture = ap (λ (v : Shown). v.picture) taken; source = ap (λ (v : Shown). v.source) taken; number = ap (λ (v : Shown). v.number) taken ∙ response.number }
 
   -- whatever else it shows, the response leads from there to what the source shows
-  pub response_taken : (fits (shown_by c) g.sent ≡ true) × (has_other_size (shown_by c) g.sent ≡ false) × (taken m (shown_by c) g.sent ≡ record { picture = full_of s.surface; source = s.number; number = given.number })
+  pub response_taken : (fits (shown_by c) g.sent ≡ true) × (has_other_size (shown_by c) g.sent ≡ false) × (shown_after m (shown_by c) g.sent ≡ record { picture = full_of s.surface; source = s.number; number = given.number })
   response_taken =
       let limits : Limits = record { cells = given.width * given.height; rows = given.height; bytes = length (answer m (sent_by s.number given)) } in
       let fits : IsWithinLimits m limits (sent_by s.number given) = record { screen = record { cells = omega arith; rows = omega arith }; bytes = omega arith; borne = response.borne } in

@@ -19,7 +19,7 @@ use Rattle.termwiz_screen.specs.Picture.{full_screens, played}
 use Rattle.termwiz_surface.specs.Answer.{AnswerValue, is_repaint, suits}
 use Rattle.termwiz_wire.specs.Answers.{answer_at}
 use Rattle.termwiz_wire.specs.declared.sent.SentAnswer.{SentAnswer}
-use Rattle.termwiz_share.specs.Client.{ClientValue, DisplayValue, SameSettings, Shown, blank_screen, display_of, fits, has_other_size, shown_by, taken}
+use Rattle.termwiz_share.specs.Client.{ClientValue, DisplayValue, SameSettings, Shown, blank_screen, display_of, fits, has_other_size, shown_after, shown_by}
 use Rattle.termwiz_share.specs.Feeding.{AreCut, HasTaken, TakesWholeOnes, TakesNextOrNone, DisplayTakes, TakesAll, TakesNext, nameless, read_of, refusal, unnamed}
 use Rattle.termwiz_share.specs.Source.{sent_by}
 use Rattle.termwiz_share.specs.declared.error.ClientError.{ClientError}
@@ -33,11 +33,11 @@ module _ (m : List ℕ → ℕ) (s : Shown) (source : ℕ) (a : AnswerValue) (p 
   shown = record { picture = p; source = source; number = a.number }
 
   -- a repaint is taken from blanks
-  pub repaint_taken : is_repaint a ≡ true → p ≡ played full_screens m (blank_screen a.width a.height) a.changes → (fits s (sent_by source a) ≡ true) × (has_other_size s (sent_by source a) ≡ false) × (shown ≡ taken m s (sent_by source a))
+  pub repaint_taken : is_repaint a ≡ true → p ≡ played full_screens m (blank_screen a.width a.height) a.changes → (fits s (sent_by source a) ≡ true) × (has_other_size s (sent_by source a) ≡ false) × (shown ≡ shown_after m s (sent_by source a))
   repaint_taken repaint is = rw repaint (refl, refl, ap (λ (q : FullScreen). record { picture = q; source = source; number = a.number }) is)
 
   -- a delta that fits is taken from what is shown
-  pub delta_taken : is_repaint a ≡ false → fits s (sent_by source a) ≡ true → suits s.picture.screen.width s.picture.screen.height a ≡ true → p ≡ played full_screens m s.picture a.changes → (fits s (sent_by source a) ≡ true) × (has_other_size s (sent_by source a) ≡ false) × (shown ≡ taken m s (sent_by source a))
+  pub delta_taken : is_repaint a ≡ false → fits s (sent_by source a) ≡ true → suits s.picture.screen.width s.picture.screen.height a ≡ true → p ≡ played full_screens m s.picture a.changes → (fits s (sent_by source a) ≡ true) × (has_other_size s (sent_by source a) ≡ false) × (shown ≡ shown_after m s (sent_by source a))
   delta_taken delta fit size is = rw (fit, size, delta) (refl, refl, ap (λ (q : FullScreen). record { picture = q; source = source; number = a.number }) is)
 
 -- an answer that doesn't fit has no other size, and makes nothing of what is shown
@@ -48,7 +48,7 @@ no_more false = refl
 pub no_size : (s : Shown) (a : SentAnswer) → fits s a ≡ false → has_other_size s a ≡ false
 no_size s a unfit = rw unfit (no_more (not (is_repaint a.answer)))
 
-pub none_taken : (m : List ℕ → ℕ) (s : Shown) (a : SentAnswer) → fits s a ≡ false → taken m s a ≡ s
+pub none_taken : (m : List ℕ → ℕ) (s : Shown) (a : SentAnswer) → fits s a ≡ false → shown_after m s a ≡ s
 none_taken m s a unfit = rw unfit refl
 
 module _ {W : Type 0} (f : W → List ℕ → ℕ) where
@@ -64,7 +64,7 @@ module _ {W : Type 0} (f : W → List ℕ → ℕ) where
     pub sent : SentAnswer
     pub read : read_of f old ≡ Ok (sent, new.kept)
     pub size : has_other_size (shown_by old) sent ≡ false
-    pub shows : shown_by new ≡ taken (f old.surface.widths) (shown_by old) sent
+    pub shows : shown_by new ≡ shown_after (f old.surface.widths) (shown_by old) sent
     pub settings : SameSettings old new
 
   pub one_of : (old new : ClientValue W) (t : Taken) → TakesNextOrNone f old (Ok (Some t)) new → HasOne old new
@@ -82,7 +82,7 @@ module _ {W : Type 0} (f : W → List ℕ → ℕ) where
   taken_one old mid new h s =
       let m : List ℕ → ℕ = f old.surface.widths in
       let is : answer_at m old.limits mid.kept ≡ Ok (s.sent, new.kept) = rw (ap f h.settings.widths, h.settings.limits) at s.read in
-      let shown : shown_by new ≡ taken m (shown_by mid) s.sent = rw (ap f h.settings.widths) at s.shows in
+      let shown : shown_by new ≡ shown_after m (shown_by mid) s.sent = rw (ap f h.settings.widths) at s.shows in
       record {
         given = h.given ++ s.sent ∷ [];
         takes = subst (λ (v : Shown). TakesAll m old.limits (shown_by old) old.kept (h.given ++ s.sent ∷ []) v new.kept) (sym shown)

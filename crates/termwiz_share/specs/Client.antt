@@ -80,8 +80,8 @@ abbrev pub start : Shown → SentAnswer → FullScreen
 start s a = if is_repaint a.answer then blank_screen a.answer.width a.answer.height else s.picture
 
 -- what is shown after an answer, which changes nothing where it doesn't fit
-abbrev pub taken : (List ℕ → ℕ) → Shown → SentAnswer → Shown
-taken measure s a =
+abbrev pub shown_after : (List ℕ → ℕ) → Shown → SentAnswer → Shown
+shown_after measure s a =
     if fits s a
     then
     record {

@@ -13,7 +13,7 @@ use Rattle.termwiz_wire.specs.declared.fault.WireError.{WireError}
 use Rattle.termwiz_wire.specs.declared.fault.WireError.TheVariants as wire_errors
 use Rattle.termwiz_wire.specs.declared.sent.LentAnswer.{LentAnswer}
 use Rattle.termwiz_wire.specs.declared.sent.SentAnswer.{SentAnswer}
-use Rattle.termwiz_share.specs.Client.{ClientValue, DisplayValue, SameSettings, Shown, display_of, fits, has_other_size, shown_by, shown_on, size_place, stale_place, taken}
+use Rattle.termwiz_share.specs.Client.{ClientValue, DisplayValue, SameSettings, Shown, display_of, fits, has_other_size, shown_after, shown_by, shown_on, size_place, stale_place}
 use Rattle.termwiz_share.specs.declared.error.ClientError.{ClientError}
 use Rattle.termwiz_share.specs.declared.error.ClientError.TheVariants as errors
 use Rattle.termwiz_share.specs.declared.taken.Taken.{Taken}
@@ -26,7 +26,7 @@ module _ (measure : List ℕ → ℕ) (limits : Limits) where
   TakesAll s bytes [] t rest = (bytes ≡ rest) × (t ≡ s)
   TakesAll s bytes (a ∷ more) t rest =
       (next : List ℕ) × (answer_at measure limits bytes ≡ Ok (a, next)) ×
-      (has_other_size s a ≡ false) × TakesAll (taken measure s a) next more t rest
+      (has_other_size s a ≡ false) × TakesAll (shown_after measure s a) next more t rest
 
   -- more bytes may make an answer
   pub record AreCut (bytes : List ℕ) : Type 0 where
@@ -108,7 +108,7 @@ module _ {W : Type 0} where
         DisplayValue W → SentAnswer → Result Taken ClientError → DisplayValue W → Type 0
     DisplayTakes old a (Ok shows.Shown) new =
         (fits (shown_on old) a ≡ true) × (has_other_size (shown_on old) a ≡ false) ×
-        (shown_on new ≡ taken (measure_of old.surface.widths) (shown_on old) a) ×
+        (shown_on new ≡ shown_after (measure_of old.surface.widths) (shown_on old) a) ×
         (new.surface.widths ≡ old.surface.widths)
     DisplayTakes old a (Ok (shows.Stale at)) new =
         (fits (shown_on old) a ≡ false) × (at ≡ stale_place (shown_on old) a) × (new ≡ old)
@@ -128,7 +128,7 @@ module _ {W : Type 0} where
     TakesNextOrNone old (Ok (Some shows.Shown)) new =
         (a : SentAnswer) × (read_of old ≡ Ok (a, new.kept)) × (fits (shown_by old) a ≡ true) ×
         (has_other_size (shown_by old) a ≡ false) ×
-        (shown_by new ≡ taken (measure_of old.surface.widths) (shown_by old) a) ×
+        (shown_by new ≡ shown_after (measure_of old.surface.widths) (shown_by old) a) ×
         SameSettings old new
     TakesNextOrNone old (Ok (Some (shows.Stale at))) new =
         (a : SentAnswer) × (read_of old ≡ Ok (a, new.kept)) × (fits (shown_by old) a ≡ false) ×

@@ -24,7 +24,7 @@ pub use Rattle.termwiz_wire.specs.Answers.{answer_at}
 pub use Rattle.termwiz_wire.specs.Lent.{lent_answer}
 pub use Rattle.termwiz_wire.specs.Sent.{IsAsk, IsSent, ask}
 pub use Rattle.termwiz_wire.specs.declared.fault.Fault.{Fault}
-pub use Rattle.termwiz_share.specs.Source.{IsResponse, PutsAnswer, PutsDelta, Responds, IsWritten, SourceValue, bytes_of, most_bytes, number_asked, repaint_of, response_bytes, sent_by, source_of, trimmed}
+pub use Rattle.termwiz_share.specs.Source.{IsResponse, PutsAnswer, PutsDelta, Responds, SourceValue, WritesFront, bytes_of, most_bytes, number_asked, repaint_answer, response_bytes, sent_by, source_of, trimmed_surface}
 pub use Rattle.termwiz_share.specs.Responses.{HasResponses, chosen, delta_part}
 pub use Rattle.termwiz_share.specs.Client.{ClientValue, DisplayValue, IsReady, ask_of, fits, shown_by, shown_on, size_place, stale_place}
 pub use Rattle.termwiz_share.specs.Feeding.{DecodesNext, EndsHere, Feeds, HasBegunNext, KeepsPiece, TakesWholeOnes, TakesNextOrNone, DisplayTakes, TakesNext, nameless, refusal}

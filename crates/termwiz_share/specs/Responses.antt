@@ -1,6 +1,6 @@
 -- What a source keeps of the answers that it gave.
 use Rattle.std.specs.Prelude.{◌≡◌, ◌⊎◌, ℕ, ◌-◌, ◌^◌, Bool, true, false, List, [], min}
-use Rattle.termwiz_share.specs.Source.{PutsDelta, SourceValue, bytes_of, most_bytes, repaint_of, sent_by}
+use Rattle.termwiz_share.specs.Source.{PutsDelta, SourceValue, bytes_of, most_bytes, repaint_answer, sent_by}
 use Rattle.termwiz_share.specs.declared.responses.Responses.{Responses}
 use Rattle.termwiz_wire.specs.Sent.{IsSent}
 
@@ -26,8 +26,8 @@ module _ {W : Type 0} (measure_of : W → List ℕ → ℕ) where
   abbrev pub HasRepaint : SourceValue W → List ℕ → Type 0
   HasRepaint s bytes =
       (bytes ≡ []) ⊎
-      ((bytes ≡ bytes_of measure_of s (repaint_of s.surface)) ×
-      IsSent (measure_of s.surface.widths) (sent_by s.number (repaint_of s.surface)))
+      ((bytes ≡ bytes_of measure_of s (repaint_answer s.surface)) ×
+      IsSent (measure_of s.surface.widths) (sent_by s.number (repaint_answer s.surface)))
 
   -- what is kept are answers of the source as it is
   abbrev pub HasResponses : SourceValue W → Responses → Type 0

@@ -21,8 +21,8 @@ pub record SourceValue (W : Type 0) : Type 0 where
   pub number : ℕ
 
 -- bytes are written to the front of a buffer, unless it is shorter
-abbrev pub IsWritten : List ℕ → List ℕ → ℕ → List ℕ → Type 0
-IsWritten bytes old len new =
+abbrev pub WritesFront : List ℕ → List ℕ → ℕ → List ℕ → Type 0
+WritesFront bytes old len new =
     (len ≡ length bytes) ×
     (len ≤ length old → new ≡ bytes ++ drop len old) ×
     (length old < len → new ≡ old)
@@ -46,12 +46,12 @@ module _ {W : Type 0} where
   source_of number surface = record { surface = surface; number = number }
 
   -- the surface without the changes that no answer needs
-  abbrev pub trimmed : SurfaceValue W → SurfaceValue W
-  trimmed s = with_log s (forgotten (delta_limit s.width s.height) s.log)
+  abbrev pub trimmed_surface : SurfaceValue W → SurfaceValue W
+  trimmed_surface s = with_log s (forgotten (delta_limit s.width s.height) s.log)
 
   -- its repaint
-  abbrev pub repaint_of : SurfaceValue W → AnswerValue
-  repaint_of s =
+  abbrev pub repaint_answer : SurfaceValue W → AnswerValue
+  repaint_answer s =
       record {
         width = s.width;
         height = s.height;
@@ -92,7 +92,7 @@ module _ {W : Type 0} where
 
     -- what the source gives for a number
     abbrev pub given_for : SourceValue W → ℕ → AnswerValue
-    given_for s n = if has_delta s n then delta_of s.surface n else repaint_of s.surface
+    given_for s n = if has_delta s n then delta_of s.surface n else repaint_answer s.surface
 
     -- the bytes that the source gives for an ask
     abbrev pub response_bytes : SourceValue W → Ask → List ℕ
@@ -107,7 +107,7 @@ module _ {W : Type 0} where
       -- a screen bounds it
       pub few :
           length (bytes_of s given) ≤ max (most_bytes s.surface.width s.surface.height)
-          (length (bytes_of s (repaint_of s.surface)))
+          (length (bytes_of s (repaint_answer s.surface)))
       pub chosen : given ≡ given_for s n
       pub borne : IsBorne (sent_by s.number given)
 
@@ -135,7 +135,7 @@ module _ {W : Type 0} where
       -- a screen bounds it
       pub few :
           length bytes ≤ max (most_bytes s.surface.width s.surface.height)
-          (length (bytes_of s (repaint_of s.surface)))
+          (length (bytes_of s (repaint_answer s.surface)))
       -- and bears it
       pub borne : IsBorne (sent_by s.number given)
 

@@ -1,7 +1,7 @@
 //! The bytes of a source's answers, which are kept while the source stays as it is.
 ghost use Rattle.std.specs.Prelude.{◌≡◌, ◌^◌, ◌-◌, ◌<◌, [], IfOk, OnOk, min};
 ghost use Rattle.termwiz_share.specs.{HasResponses, IsSent, PutsAnswer, PutsDelta, bytes_of};
-ghost use Rattle.termwiz_share.specs.{chosen, delta_part, measure, most_bytes, repaint_of};
+ghost use Rattle.termwiz_share.specs.{chosen, delta_part, measure, most_bytes, repaint_answer};
 ghost use Rattle.termwiz_share.specs.{sent_by, source_of, true};
 
 use std::alloc::{AllocError, Global};
@@ -110,9 +110,9 @@ impl Responses {
         requires has { HasResponses (measure W.width_of) (source_of number surface.now) self.old }
         ensures has { HasResponses (measure W.width_of) (source_of number surface.now) self.new }
         ensures put { OnOk result (self.new.repaint.items ≡ bytes_of (measure W.width_of)
-            (source_of number surface.now) (repaint_of surface.now)) }
+            (source_of number surface.now) (repaint_answer surface.now)) }
         ensures form { OnOk result (IsSent (measure W.width_of surface.now.widths)
-            (sent_by number (repaint_of surface.now))) }
+            (sent_by number (repaint_answer surface.now))) }
     {
         if !self.repaint.is_empty() {
             return Ok(());
@@ -158,9 +158,9 @@ fn put_repaint<W: Widths>(
     requires full { surface.now.full ≡ true }
     requires empty { out.old.items ≡ [] }
     ensures put { OnOk result (out.new.items ≡ bytes_of (measure W.width_of)
-        (source_of number surface.now) (repaint_of surface.now)) }
+        (source_of number surface.now) (repaint_answer surface.now)) }
     ensures form { OnOk result (IsSent (measure W.width_of surface.now.widths)
-        (sent_by number (repaint_of surface.now))) }
+        (sent_by number (repaint_answer surface.now))) }
 {
     let repaint = surface.answer(SEQ_ZERO)?;
     encode_answer(out, &surface.widths(), number, &repaint)

@@ -3,13 +3,13 @@ ghost use Rattle.std.specs.Prelude.{◌≡◌, ◌≢◌, ◌+◌, ◌-◌, ◌<
 ghost use Rattle.std.specs.Prelude.{IsTrue, List, OnErr, OnOk, ℕ, min, vec_len};
 ghost use Rattle.termwiz_share.specs.{Adds, AddsList, AddsScrolledOff, ClientValue};
 ghost use Rattle.termwiz_share.specs.{HasCopied, HasDrawn, IsCopied, IsDrawn, region_at};
-ghost use Rattle.termwiz_share.specs.{IsResponse, IsWritten, number_asked};
+ghost use Rattle.termwiz_share.specs.{IsResponse, WritesFront, number_asked};
 ghost use Rattle.termwiz_share.specs.{IsSurfaceSize, PreservesServing};
 ghost use Rattle.termwiz_share.specs.{Resizes, Responds, ScrollRegion, Serves, SourceValue};
 ghost use Rattle.termwiz_share.specs.{blank_surface, change_list, flushed};
 ghost use Rattle.termwiz_share.specs.{change_value, copied_region, length, map, measure};
 ghost use Rattle.termwiz_share.specs.{next_number, response_bytes};
-ghost use Rattle.termwiz_share.specs.{kept_of, rows_scrolled_off, screen_of, trimmed};
+ghost use Rattle.termwiz_share.specs.{kept_of, rows_scrolled_off, screen_of, trimmed_surface};
 ghost use Rattle.termwiz_share.specs.{true, whole_at, with_log};
 
 use crate::responses::Responses;
@@ -95,8 +95,8 @@ impl<W: Widths> Source<W> {
     /// Applies one change, as `Surface::add_change` does.
     pub fn add_change(&mut self, change: Change) -> Result<SequenceNo, SurfaceError>
         ensures adds { Adds (measure W.width_of self.old.surface.widths)
-            (trimmed self.old.surface) (change_value change ∷ [])
-            (next_number (trimmed self.old.surface).log) result self.new.surface }
+            (trimmed_surface self.old.surface) (change_value change ∷ [])
+            (next_number (trimmed_surface self.old.surface).log) result self.new.surface }
         // Clients, viewers, numbers and rows hold, even after an error.
         ensures preserves { PreservesServing (measure W.width_of) self.old self.new }
     {
@@ -108,8 +108,8 @@ impl<W: Widths> Source<W> {
     /// Applies the changes in order, as `Surface::add_changes` does.
     pub fn add_changes(&mut self, changes: Vec<Change>) -> Result<SequenceNo, SurfaceError>
         ensures adds { Adds (measure W.width_of self.old.surface.widths)
-            (trimmed self.old.surface) (map change_value changes.items)
-            (next_number (trimmed self.old.surface).log - 1 + vec_len changes)
+            (trimmed_surface self.old.surface) (map change_value changes.items)
+            (next_number (trimmed_surface self.old.surface).log - 1 + vec_len changes)
             result self.new.surface }
         // Clients, viewers, numbers and rows hold, even after an error.
         ensures preserves { PreservesServing (measure W.width_of) self.old self.new }
@@ -125,8 +125,9 @@ impl<W: Widths> Source<W> {
         lines: &mut L,
     ) -> Result<SequenceNo, SurfaceError>
         ensures adds { AddsList (measure W.width_of self.old.surface.widths)
-            (trimmed self.old.surface) list.entry
-            (next_number (trimmed self.old.surface).log - 1 + length (change_list list.entry))
+            (trimmed_surface self.old.surface) list.entry
+            (next_number (trimmed_surface self.old.surface).log - 1
+            + length (change_list list.entry))
             result self.new.surface }
         // The lines that scroll off are added, as they were shown. The old ones stay, even after an
         // error.
@@ -150,7 +151,7 @@ impl<W: Widths> Source<W> {
         x: usize,
         y: usize,
     ) -> Result<SequenceNo, SurfaceError>
-        ensures draws { IsDrawn (measure W.width_of) (trimmed self.old.surface) other.now
+        ensures draws { IsDrawn (measure W.width_of) (trimmed_surface self.old.surface) other.now
             (whole_at other.now x y) result self.new.surface }
         // All but the rows is as before.
         ensures restores { OnOk result (screen_of self.new.surface
@@ -178,7 +179,7 @@ impl<W: Widths> Source<W> {
         dest_x: usize,
         dest_y: usize,
     ) -> Result<SequenceNo, SurfaceError>
-        ensures draws { IsDrawn (measure W.width_of) (trimmed self.old.surface) other.now
+        ensures draws { IsDrawn (measure W.width_of) (trimmed_surface self.old.surface) other.now
             (region_at dest_x dest_y width height src_x src_y) result self.new.surface }
         // All but the rows is as before.
         ensures restores { OnOk result (screen_of self.new.surface
@@ -207,7 +208,7 @@ impl<W: Widths> Source<W> {
         dest_x: usize,
         dest_y: usize,
     ) -> Result<SequenceNo, SurfaceError>
-        ensures copies { IsCopied (measure W.width_of) (trimmed self.old.surface)
+        ensures copies { IsCopied (measure W.width_of) (trimmed_surface self.old.surface)
             src_x src_y width height dest_x dest_y result self.new.surface }
         // What the region showed before, overlapping or not, where no wide grapheme crosses an
         // edge.
@@ -235,8 +236,8 @@ impl<W: Widths> Source<W> {
         dest_x: usize,
         dest_y: usize,
     ) -> Result<SequenceNo, SurfaceError>
-        ensures draws { IsDrawn (measure W.width_of) (trimmed self.old.surface)
-            (trimmed self.old.surface) (region_at dest_x dest_y width height src_x src_y)
+        ensures draws { IsDrawn (measure W.width_of) (trimmed_surface self.old.surface)
+            (trimmed_surface self.old.surface) (region_at dest_x dest_y width height src_x src_y)
             result self.new.surface }
         // All but the rows is as before.
         ensures restores { OnOk result (screen_of self.new.surface
@@ -301,7 +302,7 @@ impl<W: Widths> Source<W> {
         ensures alone { out.old.items ≡ [] → OnOk result (
             IsResponse (measure W.width_of) self.new ask out.new.items) }
         ensures trims { OnOk result (
-            self.new ≡ record self.old { surface = trimmed self.old.surface }) }
+            self.new ≡ record self.old { surface = trimmed_surface self.old.surface }) }
         ensures err { OnErr result (self.new ≡ self.old) }
         ensures begins { OnErr result ((more : List ℕ) × (out.new.items ≡ out.old.items ++ more)) }
         // Clients, viewers, numbers and rows hold, even after an error.
@@ -322,10 +323,10 @@ impl<W: Widths> Source<W> {
     pub fn respond_to(&mut self, ask: Ask, room: &mut [u8]) -> Result<usize, AllocError>
         ensures response { OnOk result (IsResponse (measure W.width_of) self.new ask
             (response_bytes (measure W.width_of) self.new ask)) }
-        ensures written { IfOk result (λ len. IsWritten
+        ensures written { IfOk result (λ len. WritesFront
             (response_bytes (measure W.width_of) self.new ask) room.old len room.new) }
         ensures trims { OnOk result (
-            self.new ≡ record self.old { surface = trimmed self.old.surface }) }
+            self.new ≡ record self.old { surface = trimmed_surface self.old.surface }) }
         ensures err { OnErr result (self.new ≡ self.old) }
         ensures unwritten { OnErr result (room.new ≡ room.old) }
         // Clients, viewers, numbers and rows hold, even after an error.
@@ -352,7 +353,7 @@ impl<W: Widths> Source<W> {
 
 // Writes bytes to the front of a buffer, unless it is shorter, and returns how many there are.
 fn write_front(bytes: &[u8], room: &mut [u8]) -> usize
-    ensures { IsWritten bytes.now room.old result room.new }
+    ensures { WritesFront bytes.now room.old result room.new }
 {
     let len = bytes.len();
     if len <= room.len() {

@@ -35,7 +35,7 @@ use Rattle.termwiz_wire.specs.Pieces.{runs, needs_pieces}
 use Rattle.termwiz_wire.specs.Cuts.{is_rest_at, is_run_at, are_at, same_at, pieces_at, pieces_by}
 use Rattle.termwiz_wire.specs.declared.pieces.Run.{Run}
 use Rattle.termwiz_wire.specs.Encoding.{run, pieces, with_pieces, item_count, color, style_number, param, link, optional_link, attributes, attribute_kind, attribute_value, attribute_change, position, is_visible, scroll, change_kind, change_count, change_values, change}
-use Rattle.termwiz_wire.specs.Decoding.{palette_at, rgb_at, rgb_palette_at, color_at, ascends, which_at, key_at, param_at, params_at, link_at, optional_link_at, attributes_at, attribute_change_by, attribute_change_at, position_at, place_at, is_on, region_size_at, scroll_at, printed_at, visibility_of, change_by, count_at, has_count, change_kind_at, change_at}
+use Rattle.termwiz_wire.specs.Decoding.{palette_at, rgb_item_at, rgb_palette_at, color_item_at, ascends, which_at, key_at, param_item_at, params_at, link_at, optional_link_at, attributes_at, attribute_change_by, attribute_change_at, position_at, place_at, is_on, region_size_at, scroll_at, printed_at, visibility_of, change_by, count_at, has_count, change_kind_at, change_at}
 use Rattle.termwiz_wire.specs.Forms.{IsColor, IsParam, IsLink, IsOptionalLink, AreAttributes, IsAttributeChange, IsPosition, IsScroll, IsPrinted, IsChange}
 use Rattle.termwiz_wire.proofs.Bounded.{array-some, unsigned-some}
 use Rattle.termwiz_wire.proofs.RunBounds.{IsRun, runs-are}
@@ -54,22 +54,22 @@ which_again room limit n rest lt fits = rw (unsigned_again room n rest fits, lt-
 part_again : (room : ℕ) (n : ℕ) (rest : List ℕ) → n < 256 → below_at room 256 (unsigned n ++ rest) ≡ Ok (n, rest)
 part_again room n rest lt = below_again room 256 n rest (omega (arith, lt)) lt
 
-default_again : (room : ℕ) (rest : List ℕ) → color_at room (color colors.Default ++ rest) ≡ Ok (colors.Default, rest)
-unfolding color color_at
+default_again : (room : ℕ) (rest : List ℕ) → color_item_at room (color colors.Default ++ rest) ≡ Ok (colors.Default, rest)
+unfolding color color_item_at
 default_again room rest = rw (kind_null room rest, null_again room rest) refl
 
-pub color_again : (room : ℕ) (c : ColorAttribute) (rest : List ℕ) → IsColor c → color_at room (color c ++ rest) ≡ Ok (c, rest)
-unfolding color color_at palette_at rgb_at rgb_palette_at
+pub color_again : (room : ℕ) (c : ColorAttribute) (rest : List ℕ) → IsColor c → color_item_at room (color c ++ rest) ≡ Ok (c, rest)
+unfolding color color_item_at palette_at rgb_item_at rgb_palette_at
 color_again room colors.Default rest is = default_again room rest
 color_again room (colors.PaletteIndex n) rest is = rw (kind_unsigned room n rest, part_again room n rest is) refl
 color_again room (colors.TrueColorWithDefaultFallback c) rest is =
     let tail : List ℕ = unsigned c.red ++ (unsigned c.green ++ (unsigned c.blue ++ rest)) in
     let regrouped : color (colors.TrueColorWithDefaultFallback c) ++ rest ≡ array 3 ++ tail = simp append_assoc in
-    ap (color_at room) regrouped ∙ rw (kind_array room 3 tail, array_again room 3 tail (omega arith), part_again room c.red (unsigned c.green ++ (unsigned c.blue ++ rest)) is.red, part_again room c.green (unsigned c.blue ++ rest) is.green, part_again room c.blue rest is.blue) refl
+    ap (color_item_at room) regrouped ∙ rw (kind_array room 3 tail, array_again room 3 tail (omega arith), part_again room c.red (unsigned c.green ++ (unsigned c.blue ++ rest)) is.red, part_again room c.green (unsigned c.blue ++ rest) is.green, part_again room c.blue rest is.blue) refl
 color_again room (colors.TrueColorWithPaletteFallback c index) rest is =
     let tail : List ℕ = unsigned c.red ++ (unsigned c.green ++ (unsigned c.blue ++ (unsigned index ++ rest))) in
     let regrouped : color (colors.TrueColorWithPaletteFallback c index) ++ rest ≡ array 4 ++ tail = simp append_assoc in
-    ap (color_at room) regrouped ∙ rw (kind_array room 4 tail, array_again room 4 tail (omega arith), part_again room c.red (unsigned c.green ++ (unsigned c.blue ++ (unsigned index ++ rest))) is.0.red, part_again room c.green (unsigned c.blue ++ (unsigned index ++ rest)) is.0.green, part_again room c.blue (unsigned index ++ rest) is.0.blue, part_again room index rest is.1) refl
+    ap (color_item_at room) regrouped ∙ rw (kind_array room 4 tail, array_again room 4 tail (omega arith), part_again room c.red (unsigned c.green ++ (unsigned c.blue ++ (unsigned index ++ rest))) is.0.red, part_again room c.green (unsigned c.blue ++ (unsigned index ++ rest)) is.0.green, part_again room c.blue (unsigned index ++ rest) is.0.blue, part_again room index rest is.1) refl
 
 -- ---- links
 
@@ -77,11 +77,11 @@ key_again : (room : ℕ) (made : List (List ℕ × List ℕ)) (key rest : List �
 unfolding key_at
 key_again room made key rest is up = rw (text_again room key rest is, up) refl
 
-param_again : (room : ℕ) (made : List (List ℕ × List ℕ)) (p : List ℕ × List ℕ) (rest : List ℕ) → IsParam p → ascends made p.0 ≡ true → param_at room made (param p ++ rest) ≡ Ok (p, rest)
-unfolding param_at param
+param_again : (room : ℕ) (made : List (List ℕ × List ℕ)) (p : List ℕ × List ℕ) (rest : List ℕ) → IsParam p → ascends made p.0 ≡ true → param_item_at room made (param p ++ rest) ≡ Ok (p, rest)
+unfolding param_item_at param
 param_again room made p rest is up =
     let regrouped : param p ++ rest ≡ array 2 ++ (text p.0 ++ (text p.1 ++ rest)) = simp append_assoc in
-    ap (param_at room made) regrouped ∙ rw (array_of_again room 2 (text p.0 ++ (text p.1 ++ rest)) (omega arith), key_again room made p.0 (text p.1 ++ rest) is.key up, text_again room p.1 rest is.value) refl
+    ap (param_item_at room made) regrouped ∙ rw (array_of_again room 2 (text p.0 ++ (text p.1 ++ rest)) (omega arith), key_again room made p.0 (text p.1 ++ rest) is.key up, text_again room p.1 rest is.value) refl
 
 params_again : (room : ℕ) (made ps : List (List ℕ × List ℕ)) (rest : List ℕ) → AllByRecursion IsParam ps → AreInOrder (made ++ ps) → params_at room made (length ps) (flat_map param ps ++ rest) ≡ Ok (made ++ ps, rest)
 unfolding params_at

@@ -6,7 +6,7 @@ use Rattle.std.proofs.Math.Seq.{take-append-add}
 use Rattle.std.proofs.lemmas.List.{length-append}
 use Rattle.cbor.specs.declared.error.FaultKind.{FaultKind}
 use Rattle.cbor.specs.Decoding.{◌>>=◌, Stop, allowed, ok}
-use Rattle.cbor.specs.Prefixes.{left, seen, Stays}
+use Rattle.cbor.specs.Prefixes.{left, seen, StaysDecoded}
 use Rattle.cbor.proofs.Steps.{bind_ok, ok_is}
 use Rattle.termwiz_cell.specs.ChangeValue.{ChangeValue}
 use Rattle.termwiz_wire.specs.Answers.{Halt, answer_at, answer_head_at, answer_in, each_at, halted, next_at, head_at, head_of, located, sent_of, within}
@@ -127,12 +127,12 @@ fault_of_answer measure limits bytes f e =
 
 -- ---- more bytes
 
-alone_stays : (more : List ℕ) (r later : Result (Head × List ℕ) Fault) → Stays kind left more r later → Stays kind seen more (r >>= alone) (later >>= alone)
+alone_stays : (more : List ℕ) (r later : Result (Head × List ℕ) Fault) → StaysDecoded kind left more r later → StaysDecoded kind seen more (r >>= alone) (later >>= alone)
 alone_stays more (Ok x) later stays = ap (λ (r : Result (Head × List ℕ) Fault). r >>= alone) stays
 alone_stays more (Err f) later (inl want) = inl want
 alone_stays more (Err f) later (inr same) = inr (ap (λ (r : Result (Head × List ℕ) Fault). r >>= alone) same)
 
-pub answer_head_stays : (limits : Limits) (bytes more : List ℕ) → Stays kind seen more (answer_head_at limits bytes) (answer_head_at limits (bytes ++ more))
+pub answer_head_stays : (limits : Limits) (bytes more : List ℕ) → StaysDecoded kind seen more (answer_head_at limits bytes) (answer_head_at limits (bytes ++ more))
 unfolding answer_head_at
 answer_head_stays limits bytes more =
     let read : ℕ → List ℕ → Result (Head × List ℕ) Halt = λ room rest. halted None (head_at room limits rest) in

@@ -5,7 +5,7 @@ use Rattle.std.proofs.lemmas.Bool.{ne_eqb, eq-eqb, le-ltb, cases_lt}
 use Rattle.cbor.specs.Encoding.{unsigned, array}
 use Rattle.cbor.proofs.Items.{unsigned_again, below_again, array_again, list_again}
 use Rattle.termwiz_wire.specs.Encoding.{change, changes}
-use Rattle.termwiz_wire.specs.Answers.{version_at, body_at, opened_at, source_at, size_at, height_at, number_at, head_at, head_of, answer_in, asked_at, ask_in}
+use Rattle.termwiz_wire.specs.Answers.{version_at, body_at, opened_at, source_at, size_at, height_at, based_number_at, head_at, head_of, answer_in, asked_at, ask_in}
 use Rattle.termwiz_wire.specs.Sent.{IsSent, IsAsk, answer, ask}
 use Rattle.termwiz_wire.specs.Screens.{FitsLimits}
 use Rattle.termwiz_wire.specs.Within.{IsBorne}
@@ -46,8 +46,8 @@ height_again : (room : ℕ) (limits : Limits) (width n : ℕ) (rest : List ℕ) 
 unfolding height_at
 height_again room limits width n rest some fits few = rw (size_again room n rest some fits, not_past limits width n few) refl
 
-number_again : (room base n : ℕ) (rest : List ℕ) → base ≤ n → n < 2 ^ 64 → number_at room base (unsigned n ++ rest) ≡ Ok (n, rest)
-unfolding number_at
+number_again : (room base n : ℕ) (rest : List ℕ) → base ≤ n → n < 2 ^ 64 → based_number_at room base (unsigned n ++ rest) ≡ Ok (n, rest)
+unfolding based_number_at
 number_again room base n rest le lt = rw (unsigned_again room n rest lt, le-ltb n base le) refl
 
 pub head_again : (measure : List ℕ → ℕ) (room : ℕ) (limits : Limits) (s : SentAnswer) (rest : List ℕ) → IsSent measure s → FitsLimits limits s.answer.width s.answer.height → head_at room limits (answer measure s ++ rest) ≡ Ok (head_of s, flat_map (change measure) s.answer.changes ++ rest)

@@ -11,7 +11,7 @@ use Rattle.termwiz_cell.specs.ChangeValue.{ChangeValue}
 use Rattle.termwiz_screen.specs.Step.{regions_fit}
 use Rattle.termwiz_wire.specs.Cuts.{refused}
 use Rattle.termwiz_wire.specs.Encoding.{changes}
-use Rattle.termwiz_wire.specs.Answers.{Halt, version_at, body_at, opened_at, source_at, size_at, height_at, number_at, head_at, halted, each_at, sent_of, answer_in, asked_at, ask_in}
+use Rattle.termwiz_wire.specs.Answers.{Halt, version_at, body_at, opened_at, source_at, size_at, height_at, based_number_at, head_at, halted, each_at, sent_of, answer_in, asked_at, ask_in}
 use Rattle.termwiz_wire.specs.Sent.{answer, ask}
 use Rattle.termwiz_wire.specs.Screens.{FitsLimits, is_past}
 use Rattle.termwiz_wire.specs.Within.{IsBorne}
@@ -71,8 +71,8 @@ height_takes room limits width bytes x fits e =
     let g = guard_ok (is_past limits width a.0.0) (stopped faults.Limit room bytes) a.0 x a.2 in
     subst (λ (y : ℕ × List ℕ). Takes bytes (unsigned y.0) y.1 × FitsLimits limits width y.0) g.1 (size_takes room bytes a.0 fits a.1, fits_of limits width a.0.0 g.0)
 
-number_found : (room base : ℕ) (bytes : List ℕ) (x : ℕ × List ℕ) → IsBytes bytes → number_at room base bytes ≡ Ok x → Takes bytes (unsigned x.0) x.1
-unfolding number_at
+number_found : (room base : ℕ) (bytes : List ℕ) (x : ℕ × List ℕ) → IsBytes bytes → based_number_at room base bytes ≡ Ok x → Takes bytes (unsigned x.0) x.1
+unfolding based_number_at
 number_found room base bytes x fits e = (let_takes room (λ n. ltb n base) faults.Range bytes x fits e).0
 
 -- ---- heads
@@ -84,7 +84,7 @@ abbrev from_number : ℕ → ℕ → ℕ → ℕ → ℕ → ℕ × List ℕ →
 from_number room s w h b n = list_at room n.1 >>= λ c. ok (record { source = s; width = w; height = h; base = b; number = n.0; count = c.0 }) c.1
 
 abbrev from_base : ℕ → ℕ → ℕ → ℕ → ℕ × List ℕ → Read
-from_base room s w h b = number_at room b.0 b.1 >>= λ n. from_number room s w h b.0 n
+from_base room s w h b = based_number_at room b.0 b.1 >>= λ n. from_number room s w h b.0 n
 
 abbrev from_height : ℕ → ℕ → ℕ → ℕ × List ℕ → Read
 from_height room s w h = unsigned_at room h.1 >>= λ b. from_base room s w h.0 b
@@ -116,7 +116,7 @@ head_takes room limits bytes x fits e =
     let w = bind_ok (size_at room s.0.1) (λ w. from_width room limits s.0.0 w) x s.2 in
     let h = bind_ok (height_at room limits w.0.0 w.0.1) (λ h. from_height room s.0.0 w.0.0 h) x w.2 in
     let b = bind_ok (unsigned_at room h.0.1) (λ b. from_base room s.0.0 w.0.0 h.0.0 b) x h.2 in
-    let n = bind_ok (number_at room b.0.0 b.0.1) (λ n. from_number room s.0.0 w.0.0 h.0.0 b.0.0 n) x b.2 in
+    let n = bind_ok (based_number_at room b.0.0 b.0.1) (λ n. from_number room s.0.0 w.0.0 h.0.0 b.0.0 n) x b.2 in
     let c = bind_ok (list_at room n.0.1) (λ c. ok (record { source = s.0.0; width = w.0.0; height = h.0.0; base = b.0.0; number = n.0.0; count = c.0 }) c.1) x n.2 in
     let t0 = opened_takes room 7 bytes body.0 fits body.1 in
     let ts = source_takes room body.0 s.0 t0.rest_fits s.1 in

@@ -17,7 +17,7 @@ use Rattle.termwiz_cell.specs.Graphemes.{single}
 use Rattle.termwiz_cell.specs.UsualWidths.{HasNarrowAscii}
 use Rattle.termwiz_cell.proofs.Graphemes.{single_same}
 use Rattle.termwiz_screen.specs.Print.{piece_of, printed_cell}
-use Rattle.termwiz_wire.specs.Pieces.{columns_of, needs_pieces, piece, pieces_of, runs, stands_out}
+use Rattle.termwiz_wire.specs.Pieces.{needs_pieces, piece, piece_columns, pieces_of, runs, stands_out}
 use Rattle.termwiz_wire.proofs.Runs.{runs_are, any-grouped}
 
 -- the text that a cell shows for a character of ASCII has one column at most
@@ -33,7 +33,7 @@ shown-narrow f c l n s = elim (cases_Bool (is_control c)) [
 narrow-columns : (f : List ℕ → ℕ) (g : List ℕ) → f (clean (single g)) ≤ 1 → columns (printed_cell f default_attributes g) ≡ 1
 narrow-columns f g h = rw (le-ltb 1 (f (clean (single g))) h) refl
 
-few-columns : (f : List ℕ → ℕ) (c : ℕ) → graphemes true (c ∷ []) ≡ (c ∷ []) ∷ [] → f (clean (c ∷ [])) ≤ 1 → nat_lt 1 (columns_of (piece_of f default_attributes (c ∷ []))) ≡ false
+few-columns : (f : List ℕ → ℕ) (c : ℕ) → graphemes true (c ∷ []) ≡ (c ∷ []) ∷ [] → f (clean (c ∷ [])) ≤ 1 → nat_lt 1 (piece_columns (piece_of f default_attributes (c ∷ []))) ≡ false
 few-columns f c alone h = elim (cases_Bool (c == 13)) [
   | inl y ↦ rw y refl
   | inr no_cr ↦ elim (cases_Bool (c == 10)) [

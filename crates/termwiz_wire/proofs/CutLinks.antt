@@ -10,7 +10,7 @@ use Rattle.cbor.specs.declared.error.FaultKind.TheVariants as faults
 use Rattle.cbor.specs.declared.error.ReadError.{ReadError}
 use Rattle.cbor.specs.declared.error.ReadError.TheVariants as read_errors
 use Rattle.cbor.specs.declared.kind.Kind.TheVariants as kinds
-use Rattle.cbor.specs.Decoding.{◌>>=◌, Stop, Stops, IsBytes, ok, allowed, argument_in, array_of_in, fault_of, head_in, kind_of, short_in, wide_in, kind_at, unsigned_at, array_at, below_at, boolean_at, list_at, text_at, array_of_at}
+use Rattle.cbor.specs.Decoding.{◌>>=◌, Stop, Stops, IsBytes, ok, allowed, argument_in, array_of_in, fault_of, head_in, kind_of, short_in, wide_argument_in, kind_at, unsigned_at, array_at, below_at, boolean_at, list_at, text_at, array_of_at}
 use Rattle.cbor.proofs.Items.{unsigned_takes, array_takes, below_takes, boolean_takes, list_takes, text_takes, array_of_takes}
 use Rattle.cbor.proofs.Steps.{Takes, bind_ok, chosen, failed, guard_ended, guard_past, ok_is, placed_ok}
 use Rattle.termwiz_cell.specs.Attributes.{Attributes}
@@ -25,9 +25,9 @@ use Rattle.termwiz_cell.specs.declared.color.ColorAttribute.{ColorAttribute}
 use Rattle.termwiz_wire.specs.Answers.{next_at}
 use Rattle.termwiz_wire.specs.Cuts.{refused}
 use Rattle.termwiz_wire.specs.CutLinks.{IsLinkPart, LinkPart, before_link_at, before_link_by, has_item, has_item_by, link_alone_at, link_begun_at, link_change, link_change_by, link_item_at, link_item_by, link_part_at, link_rest_at, param_key_at, params_left_by}
-use Rattle.termwiz_wire.specs.Decoding.{are_small, ascends, attribute_change_at, attributes_at, change_at, change_by, change_kind_at, color_at, count_at, has_count, key_at, link_at, optional_link_at, param_at, params_at, split, style_at, style_limit, styled, which_at}
+use Rattle.termwiz_wire.specs.Decoding.{are_small, ascends, attribute_change_at, attributes_at, change_at, change_by, change_kind_at, color_item_at, count_at, has_count, key_at, link_at, optional_link_at, param_item_at, params_at, split, style_item_at, style_limit, styled, which_at}
 use Rattle.termwiz_wire.specs.Encoding.{fields}
-use Rattle.termwiz_wire.specs.Resuming.{HasReadOn, IsCut, ReachesItem, ReadsOn}
+use Rattle.termwiz_wire.specs.Resuming.{HasReadOn, ReachesItem, ReadsOn, StopsTruncated}
 use Rattle.termwiz_wire.specs.Work.{bears, most_work}
 use Rattle.termwiz_wire.specs.declared.decode.heads.Head.{Head}
 use Rattle.termwiz_wire.proofs.Found.{color_takes}
@@ -108,15 +108,15 @@ list_ends room = record { leaves = λ bytes x fits e. end_of bytes _ x.1 (list_t
 pub text_ends : (room : ℕ) → Ends (text_at room)
 text_ends room = record { leaves = λ bytes x fits e. end_of bytes _ x.1 (text_takes room bytes x fits e).0 }
 
-color_ends : (room : ℕ) → Ends (color_at room)
+color_ends : (room : ℕ) → Ends (color_item_at room)
 color_ends room = record { leaves = λ bytes x fits e. end_of bytes _ x.1 (color_takes room bytes x fits e).0 }
 
 which_ends : (room limit : ℕ) → Ends (λ bytes. which_at room limit bytes)
 unfolding which_at
 which_ends room limit = kept_ends faults.Type room (λ n. ltb n limit) (unsigned_ends room)
 
-style_ends : (room : ℕ) → Ends (style_at room)
-unfolding style_at
+style_ends : (room : ℕ) → Ends (style_item_at room)
+unfolding style_item_at
 style_ends room = kept_ends faults.Range room (λ n. are_small (split fields n)) (below_ends room style_limit)
 
 pub count_ends : (room : ℕ) → Ends (count_at room)
@@ -187,13 +187,13 @@ named_err {A = A} (Err d) f s e = let same : d ≡ s = cc in ap (λ (t : Stop). 
 few_info : {P : Type 0} (room i : ℕ) (bytes : List ℕ) (x : ℕ × List ℕ) → argument_in room i bytes ≡ Ok x → (i < 28 → P) → P
 unfolding argument_in
 few_info room i bytes x e then =
-    elim (chosen (eqb i 24) (short_in room bytes) (cond (eqb i 25) (wide_in room w16 (2 ^ 8) bytes) (cond (eqb i 26) (wide_in room w32 (2 ^ 16) bytes) (cond (eqb i 27) (wide_in room w64 (2 ^ 32) bytes) (cond (ltb i 24) (Ok (i, bytes)) (Err faults.Type))))) (Ok x) e) [
+    elim (chosen (eqb i 24) (short_in room bytes) (cond (eqb i 25) (wide_argument_in room w16 (2 ^ 8) bytes) (cond (eqb i 26) (wide_argument_in room w32 (2 ^ 16) bytes) (cond (eqb i 27) (wide_argument_in room w64 (2 ^ 32) bytes) (cond (ltb i 24) (Ok (i, bytes)) (Err faults.Type))))) (Ok x) e) [
       | inl a ↦ then (omega (arith, eqb-true i 24 a.0))
-      | inr a ↦ elim (chosen (eqb i 25) (wide_in room w16 (2 ^ 8) bytes) (cond (eqb i 26) (wide_in room w32 (2 ^ 16) bytes) (cond (eqb i 27) (wide_in room w64 (2 ^ 32) bytes) (cond (ltb i 24) (Ok (i, bytes)) (Err faults.Type)))) (Ok x) a.1) [
+      | inr a ↦ elim (chosen (eqb i 25) (wide_argument_in room w16 (2 ^ 8) bytes) (cond (eqb i 26) (wide_argument_in room w32 (2 ^ 16) bytes) (cond (eqb i 27) (wide_argument_in room w64 (2 ^ 32) bytes) (cond (ltb i 24) (Ok (i, bytes)) (Err faults.Type)))) (Ok x) a.1) [
         | inl b ↦ then (omega (arith, eqb-true i 25 b.0))
-        | inr b ↦ elim (chosen (eqb i 26) (wide_in room w32 (2 ^ 16) bytes) (cond (eqb i 27) (wide_in room w64 (2 ^ 32) bytes) (cond (ltb i 24) (Ok (i, bytes)) (Err faults.Type))) (Ok x) b.1) [
+        | inr b ↦ elim (chosen (eqb i 26) (wide_argument_in room w32 (2 ^ 16) bytes) (cond (eqb i 27) (wide_argument_in room w64 (2 ^ 32) bytes) (cond (ltb i 24) (Ok (i, bytes)) (Err faults.Type))) (Ok x) b.1) [
           | inl c ↦ then (omega (arith, eqb-true i 26 c.0))
-          | inr c ↦ elim (chosen (eqb i 27) (wide_in room w64 (2 ^ 32) bytes) (cond (ltb i 24) (Ok (i, bytes)) (Err faults.Type)) (Ok x) c.1) [
+          | inr c ↦ elim (chosen (eqb i 27) (wide_argument_in room w64 (2 ^ 32) bytes) (cond (ltb i 24) (Ok (i, bytes)) (Err faults.Type)) (Ok x) c.1) [
             | inl d ↦ then (omega (arith, eqb-true i 27 d.0))
             | inr d ↦ then (omega (arith, ltb-true i 24 (guard_ended (ltb i 24) faults.Type (i, bytes) x d.1).0))
           ]
@@ -286,7 +286,7 @@ attributed n f b u = record (styled n) { foreground = f; background = b; underli
 abbrev linked_to : Attributes → Option Link → Attributes
 linked_to a link = record a { hyperlink = link }
 
-before_by : (room : ℕ) (bytes start : List ℕ) (n : ℕ × List ℕ) (f b u : ColorAttribute × List ℕ) (x : LinkPart × List ℕ) → array_of_at room 5 bytes ≡ Ok start → style_at room start ≡ Ok n → color_at room n.1 ≡ Ok f → color_at room f.1 ≡ Ok b → color_at room b.1 ≡ Ok u → IsBegun room (some_of (attributed n.0 f.0 b.0 u.0)) u.1 x → (attributes_at room bytes >>= λ v. ok (changed.AllAttributes v.0) v.1) ≡ link_rest_at room x.0 x.1
+before_by : (room : ℕ) (bytes start : List ℕ) (n : ℕ × List ℕ) (f b u : ColorAttribute × List ℕ) (x : LinkPart × List ℕ) → array_of_at room 5 bytes ≡ Ok start → style_item_at room start ≡ Ok n → color_item_at room n.1 ≡ Ok f → color_item_at room f.1 ≡ Ok b → color_item_at room b.1 ≡ Ok u → IsBegun room (some_of (attributed n.0 f.0 b.0 u.0)) u.1 x → (attributes_at room bytes >>= λ v. ok (changed.AllAttributes v.0) v.1) ≡ link_rest_at room x.0 x.1
 unfolding attributes_at
 before_by room bytes start n f b u x s i j k l begun =
     let made : Attributes = attributed n.0 f.0 b.0 u.0 in
@@ -299,11 +299,11 @@ before_by room bytes start n f b u x s i j k l begun =
 before_is : (room : ℕ) (bytes : List ℕ) (b : Option Attributes × List ℕ) (x : LinkPart × List ℕ) → before_link_at room bytes ≡ Ok b → IsBegun room b.0 b.1 x → (attributes_at room bytes >>= λ v. ok (changed.AllAttributes v.0) v.1) ≡ link_rest_at room x.0 x.1
 unfolding before_link_at
 before_is room bytes made x e begun =
-    let start = bind_ok (array_of_at room 5 bytes) (λ start. style_at room start >>= λ n. color_at room n.1 >>= λ f. color_at room f.1 >>= λ b. color_at room b.1 >>= λ u. ok (some_of (attributed n.0 f.0 b.0 u.0)) u.1) made e in
-    let n = bind_ok (style_at room start.0) (λ n. color_at room n.1 >>= λ f. color_at room f.1 >>= λ b. color_at room b.1 >>= λ u. ok (some_of (attributed n.0 f.0 b.0 u.0)) u.1) made start.2 in
-    let f = bind_ok (color_at room n.0.1) (λ f. color_at room f.1 >>= λ b. color_at room b.1 >>= λ u. ok (some_of (attributed n.0.0 f.0 b.0 u.0)) u.1) made n.2 in
-    let b = bind_ok (color_at room f.0.1) (λ b. color_at room b.1 >>= λ u. ok (some_of (attributed n.0.0 f.0.0 b.0 u.0)) u.1) made f.2 in
-    let u = bind_ok (color_at room b.0.1) (λ u. ok (some_of (attributed n.0.0 f.0.0 b.0.0 u.0)) u.1) made b.2 in
+    let start = bind_ok (array_of_at room 5 bytes) (λ start. style_item_at room start >>= λ n. color_item_at room n.1 >>= λ f. color_item_at room f.1 >>= λ b. color_item_at room b.1 >>= λ u. ok (some_of (attributed n.0 f.0 b.0 u.0)) u.1) made e in
+    let n = bind_ok (style_item_at room start.0) (λ n. color_item_at room n.1 >>= λ f. color_item_at room f.1 >>= λ b. color_item_at room b.1 >>= λ u. ok (some_of (attributed n.0 f.0 b.0 u.0)) u.1) made start.2 in
+    let f = bind_ok (color_item_at room n.0.1) (λ f. color_item_at room f.1 >>= λ b. color_item_at room b.1 >>= λ u. ok (some_of (attributed n.0.0 f.0 b.0 u.0)) u.1) made n.2 in
+    let b = bind_ok (color_item_at room f.0.1) (λ b. color_item_at room b.1 >>= λ u. ok (some_of (attributed n.0.0 f.0.0 b.0 u.0)) u.1) made f.2 in
+    let u = bind_ok (color_item_at room b.0.1) (λ u. ok (some_of (attributed n.0.0 f.0.0 b.0.0 u.0)) u.1) made b.2 in
     let g = ok_is {A = Option Attributes × List ℕ} (some_of (attributed n.0.0 f.0.0 b.0.0 u.0.0), u.0.1) made u.2 in
     before_by room bytes start.0 n.0 f.0 b.0 u.0 x start.1 n.1 f.1 b.1 u.1 (subst (λ (y : Option Attributes × List ℕ). IsBegun room y.0 y.1 x) (sym g) begun)
 
@@ -344,8 +344,8 @@ next_is measure room head spent bytes x few e =
 
 -- ---- one item after another
 
-param_by_key : (room : ℕ) (made : List Param) (bytes : List ℕ) → param_at room made bytes ≡ (param_key_at room made bytes >>= λ key. text_at room key.1 >>= λ value. ok (key.0, value.0) value.1)
-unfolding param_at param_key_at
+param_by_key : (room : ℕ) (made : List Param) (bytes : List ℕ) → param_item_at room made bytes ≡ (param_key_at room made bytes >>= λ key. text_at room key.1 >>= λ value. ok (key.0, value.0) value.1)
+unfolding param_item_at param_key_at
 param_by_key room made bytes = sym (then_then (array_of_at room 2 bytes) (λ start. key_at room made start) (λ key. text_at room key.1 >>= λ value. ok (key.0, value.0) value.1))
 
 -- the params after these, from the key of the next one on
@@ -490,10 +490,10 @@ read_failed room part bytes read_errors.Measure more left rest other reads = rea
 read_failed room part bytes read_errors.Memory more left rest other reads = reads
 
 -- what is cut has no value, and no fault but that
-pub cut_value : {Y : Type 0} (r : Result Y Stop) (y : Y) → IsCut r → r ≡ Ok y → ⊥
+pub cut_value : {Y : Type 0} (r : Result Y Stop) (y : Y) → StopsTruncated r → r ≡ Ok y → ⊥
 cut_value r y cut is = let bad : failed cut.stop ≡ Ok y = sym cut.is ∙ is in cc
 
-pub cut_fault : {Y : Type 0} (r : Result Y Stop) (f : FaultKind) (left : ℕ) → IsCut r → r ≡ Err (record { fault = f; left = left }) → f ≡ Truncated
+pub cut_fault : {Y : Type 0} (r : Result Y Stop) (f : FaultKind) (left : ℕ) → StopsTruncated r → r ≡ Err (record { fault = f; left = left }) → f ≡ Truncated
 cut_fault {Y = Y} r f left cut is =
     let both : failed {A = Y} cut.stop ≡ failed (record { fault = f; left = left }) = sym cut.is ∙ is in
     let same : cut.stop ≡ record { fault = f; left = left } = cc in
@@ -506,7 +506,7 @@ pub apart : {Y : Type 0} (f : FaultKind) (left : ℕ) (r : Result Y Stop) (y : Y
 apart {Y = Y} f left r y stops is = let bad : failed {A = Y} (record { fault = f; left = left }) ≡ Ok y = sym stops ∙ is in cc
 
 -- the params of a link that is cut are read up to the item that is
-pub cut_read : (room : ℕ) (part : LinkPart) (bytes : List ℕ) (r : Result Unit ReadError) (more : LinkPart) (left : ℕ) (rest : List ℕ) → ReadsOn room part bytes r more left rest → IsCut (link_rest_at room part bytes) → r ≢ Err read_errors.Memory → HasReadOn room part bytes more rest × ReachesItem room more rest
+pub cut_read : (room : ℕ) (part : LinkPart) (bytes : List ℕ) (r : Result Unit ReadError) (more : LinkPart) (left : ℕ) (rest : List ℕ) → ReadsOn room part bytes r more left rest → StopsTruncated (link_rest_at room part bytes) → r ≢ Err read_errors.Memory → HasReadOn room part bytes more rest × ReachesItem room more rest
 cut_read room part bytes (Ok done) more left rest reads cut some = absurd (cut_value (link_rest_at room part bytes) (link_change more more.params, rest) cut (read_here room part bytes more rest reads.0 ∙ item_done room more rest reads.1))
 cut_read room part bytes (Err read_errors.Truncated) more left rest reads cut some = reads
 cut_read room part bytes (Err read_errors.Version) more left rest reads cut some = absurd (other_fault faults.Version (cut_fault (link_rest_at room part bytes) faults.Version left cut reads) (λ is. cc))
@@ -531,11 +531,11 @@ unbegun read_errors.Measure left r other stops x is = apart faults.Measure left 
 unbegun read_errors.Memory left r other stops x is = absurd (other refl)
 
 -- the change is cut where its link's params are
-pub cut_params : (measure : List ℕ → ℕ) (room : ℕ) (rows : Option ℕ) (bytes : List ℕ) (x : LinkPart × List ℕ) → link_begun_at room bytes ≡ Ok x → IsCut (change_at measure room rows bytes) → IsCut (link_rest_at room x.0 x.1)
-cut_params measure room rows bytes x begun cut = subst (λ (r : Result (ChangeValue × List ℕ) Stop). IsCut r) (change_is measure room rows bytes x begun) cut
+pub cut_params : (measure : List ℕ → ℕ) (room : ℕ) (rows : Option ℕ) (bytes : List ℕ) (x : LinkPart × List ℕ) → link_begun_at room bytes ≡ Ok x → StopsTruncated (change_at measure room rows bytes) → StopsTruncated (link_rest_at room x.0 x.1)
+cut_params measure room rows bytes x begun cut = subst (λ (r : Result (ChangeValue × List ℕ) Stop). StopsTruncated r) (change_is measure room rows bytes x begun) cut
 
 -- what passes no test is cut where it is cut itself
-guard_cut : {Y : Type 0} (r : Result Y Stop) (rule : Y → Bool) (s : Stop) → s.fault ≢ Truncated → IsCut (r >>= λ y. cond (rule y) (Ok y) (Err s)) → IsCut r
+guard_cut : {Y : Type 0} (r : Result Y Stop) (rule : Y → Bool) (s : Stop) → s.fault ≢ Truncated → StopsTruncated (r >>= λ y. cond (rule y) (Ok y) (Err s)) → StopsTruncated r
 guard_cut {Y = Y} (Ok y) rule s other cut = elim (chosen (rule y) (Ok y) (Err s) (Err cut.stop) cut.is) [
   | inl a ↦ absurd cc
   | inr a ↦ let bad : failed {A = Y} s ≡ failed cut.stop = a.1 in let same : s ≡ cut.stop = cc in absurd (other (ap (λ (t : Stop). t.fault) same ∙ cut.cut))
@@ -543,6 +543,6 @@ guard_cut {Y = Y} (Ok y) rule s other cut = elim (chosen (rule y) (Ok y) (Err s)
 guard_cut {Y = Y} (Err e) rule s other cut = let both : failed {A = Y} e ≡ failed cut.stop = cut.is in record { stop = cut.stop; is = both; cut = cut.cut }
 
 -- a change that is cut, before its work is counted
-pub cut_change : (measure : List ℕ → ℕ) (room : ℕ) (head : Head) (spent : ℕ) (bytes : List ℕ) → IsCut (next_at measure room (Some head) spent bytes) → IsCut (change_at measure room (Some head.height) bytes)
+pub cut_change : (measure : List ℕ → ℕ) (room : ℕ) (head : Head) (spent : ℕ) (bytes : List ℕ) → StopsTruncated (next_at measure room (Some head) spent bytes) → StopsTruncated (change_at measure room (Some head.height) bytes)
 unfolding next_at
 cut_change measure room head spent bytes cut = guard_cut (change_at measure room (Some head.height) bytes) (λ c. bears (Some head) spent c.0) (stopped faults.Limit room bytes) (λ is. cc) cut

@@ -8,7 +8,7 @@ use Rattle.cbor.specs.declared.error.FaultKind.TheVariants.{Truncated}
 use Rattle.cbor.specs.declared.error.FaultKind.TheVariants as faults
 use Rattle.cbor.specs.declared.error.ReadError.{ReadError}
 use Rattle.cbor.specs.declared.error.ReadError.TheVariants as read_errors
-use Rattle.cbor.specs.Decoding.{◌>>=◌, Stop, Stops, IsBytes, ok, allowed, fault_of, head_in, list_in, placed, array_at, list_at, text_at}
+use Rattle.cbor.specs.Decoding.{◌>>=◌, Stop, Stops, IsBytes, ok, allowed, fault_of, head_in, list_in, fault_placed, array_at, list_at, text_at}
 use Rattle.cbor.proofs.Steps.{bind_ok, chosen, guard_ended, guard_ok, ok_is, placed_ok}
 use Rattle.termwiz_cell.specs.ChangeValue.{ChangeValue}
 use Rattle.termwiz_cell.specs.ChangeValue as changed
@@ -17,7 +17,7 @@ use Rattle.termwiz_wire.specs.CutTexts.{OtherPart, OwnPart, PiecesPart, TextPart
 use Rattle.termwiz_wire.specs.Cuts.{are_characters, are_columns, cut_at, is_count, is_rest_at, is_run_at, kept_at, no_run, others_at, pieces_at, pieces_by, refused, run_at, runs_at, same_at, threes_at}
 use Rattle.termwiz_wire.specs.Decoding.{change_at, change_by, change_kind_at, count_at, printed_at}
 use Rattle.termwiz_wire.specs.Pieces.{needs_pieces, runs, stands_out}
-use Rattle.termwiz_wire.specs.Resuming.{ArePlaces, AreWithin, Compares, EndsIn, HasCome, HasReadRuns, IsBegunText, IsCut, IsWholeText, ReachesOther, ReachesOwn, ReachesRun, ReadsOthers, ReadsRuns}
+use Rattle.termwiz_wire.specs.Resuming.{ArePlaces, AreWithin, Compares, EndsIn, HasCome, HasReadRuns, IsBegunText, IsWholeText, ReachesOther, ReachesOwn, ReachesRun, ReadsOthers, ReadsRuns, StopsTruncated}
 use Rattle.termwiz_wire.specs.Work.{bears}
 use Rattle.termwiz_wire.specs.declared.decode.cut_texts.Places.{Places}
 use Rattle.termwiz_wire.specs.declared.decode.cut_texts.ReadPieces.{ReadPieces}
@@ -75,7 +75,7 @@ list_array room bytes x e =
     let n = bind_ok (head_in room 4 bytes) (λ n. cond (ltb (allowed room n.1) n.0) (Err faults.Limit) (Ok n)) x read in
     let g = guard_ok (ltb (allowed room n.0.1) n.0.0) faults.Limit n.0 x n.2 in
     let is : head_in room 4 bytes ≡ Ok x = n.1 ∙ ap (λ (y : ℕ × List ℕ). done {E = FaultKind} y) g.1 in
-    ap (placed (allowed room bytes)) is
+    ap (fault_placed (allowed room bytes)) is
 
 is_list : (room : ℕ) (bytes : List ℕ) (x : ℕ × List ℕ) → threes_at room bytes ≡ Ok x → IsList room bytes x
 unfolding threes_at
@@ -259,7 +259,7 @@ module _ (measure : List ℕ → ℕ) (room : ℕ) (all bytes start list first t
       ∙ ap (λ (b : List ℕ). read >>= λ t. cond (bears (Some head) spent (changed.Text t.0)) (ok (changed.Text t.0) t.1) (refused faults.Limit room b)) (sym at.change_here)
 
 -- pieces are cut where their change is
-pub cut_pieces : (read : Result (List ℕ × List ℕ) Stop) → IsCut (read >>= λ t. ok {A = ChangeValue} {E = Stop} (changed.Text t.0) t.1) → IsCut read
+pub cut_pieces : (read : Result (List ℕ × List ℕ) Stop) → StopsTruncated (read >>= λ t. ok {A = ChangeValue} {E = Stop} (changed.Text t.0) t.1) → StopsTruncated read
 cut_pieces (Ok t) cut = let bad : done (changed.Text t.0, t.1) ≡ stops_at {A = ChangeValue × List ℕ} cut.stop = cut.is in absurd cc
 cut_pieces (Err e) cut = let both : stops_at {A = ChangeValue × List ℕ} e ≡ stops_at cut.stop = cut.is in let same : e ≡ cut.stop = cc in record { stop = cut.stop; is = ap (λ (s : Stop). stops_at {A = List ℕ × List ℕ} s) same; cut = cut.cut }
 
@@ -329,11 +329,11 @@ module _ (measure : List ℕ → ℕ) (room : ℕ) (all bytes : List ℕ) (part 
   begun_places = begun_within part.places (length all) bytes b.start b.list first b.places begun_ends
 
   -- its pieces are cut where the change is
-  pub begun_cut : (rows : Option ℕ) → IsCut (change_at measure room rows bytes) → IsCut (pieces_rest_at room part.places part.pieces all first)
+  pub begun_cut : (rows : Option ℕ) → StopsTruncated (change_at measure room rows bytes) → StopsTruncated (pieces_rest_at room part.places part.pieces all first)
   begun_cut rows cut =
       let at = places_here part.places all bytes b.start b.list first b.places (end_at all bytes b.start b.list first end begun_ends) in
-      let here : IsCut (pieces_rest_at room part.places (begun_pieces b.text (runs measure b.text) (b.numbers / 3)) all first) = cut_pieces (pieces_rest_at room part.places (begun_pieces b.text (runs measure b.text) (b.numbers / 3)) all first) (subst (λ (r : Result (ChangeValue × List ℕ) Stop). IsCut r) (text_change_is measure room all bytes b.start b.list first b.text b.numbers part.places at b.opens b.reads b.lists rows) cut) in
-      subst (λ (p : PiecesPart). IsCut (pieces_rest_at room part.places p all first)) (sym b.pieces) here
+      let here : StopsTruncated (pieces_rest_at room part.places (begun_pieces b.text (runs measure b.text) (b.numbers / 3)) all first) = cut_pieces (pieces_rest_at room part.places (begun_pieces b.text (runs measure b.text) (b.numbers / 3)) all first) (subst (λ (r : Result (ChangeValue × List ℕ) Stop). StopsTruncated r) (text_change_is measure room all bytes b.start b.list first b.text b.numbers part.places at b.opens b.reads b.lists rows) cut) in
+      subst (λ (p : PiecesPart). StopsTruncated (pieces_rest_at room part.places p all first)) (sym b.pieces) here
 
 -- ---- one run after another
 
@@ -662,7 +662,7 @@ own_reached room left bytes reached = are_next room left reached.behind reached.
 other_reached : (room : ℕ) (part : OtherPart) (bytes : List ℕ) (reached : ReachesOther room part bytes) → others_left_at part room bytes ≡ Err reached.cut.stop
 other_reached room part bytes reached = other_next room part bytes (Err reached.cut.stop) reached.some reached.cut.is
 
-pub run_reached : (room : ℕ) (places : Places) (part : PiecesPart) (all bytes : List ℕ) → ReachesRun room part bytes → IsCut (pieces_rest_at room places part all bytes)
+pub run_reached : (room : ℕ) (places : Places) (part : PiecesPart) (all bytes : List ℕ) → ReachesRun room part bytes → StopsTruncated (pieces_rest_at room places part all bytes)
 run_reached room places (Own part) all bytes reached = record {
   stop = reached.cut.stop;
   is = ap (λ (r : Result (Bool × List ℕ) Stop). r >>= λ same. cond same.0 (ok part.text same.1) (others_rest_at room places (all_others part.text part.count) all (drop places.runs all))) (own_reached room part.left bytes reached);
@@ -688,10 +688,10 @@ whole_here room places part all bytes text rest read =
     ∙ ap (λ (t : List ℕ). texted text t) (append-nil rest)
 
 -- a text that is cut is neither whole nor has a fault
-pub cut_whole : (room : ℕ) (places : Places) (part : PiecesPart) (all bytes text rest : List ℕ) → IsWholeText room places part all bytes text rest → IsCut (pieces_rest_at room places part all bytes) → ⊥
+pub cut_whole : (room : ℕ) (places : Places) (part : PiecesPart) (all bytes text rest : List ℕ) → IsWholeText room places part all bytes text rest → StopsTruncated (pieces_rest_at room places part all bytes) → ⊥
 cut_whole room places part all bytes text rest read cut = cut_value (pieces_rest_at room places part all bytes) (text, rest) cut (whole_here room places part all bytes text rest read)
 
-pub cut_failed : (room : ℕ) (places : Places) (part : PiecesPart) (all bytes : List ℕ) (e : ReadError) (at : ℕ) → e ≢ read_errors.Truncated → e ≢ read_errors.Memory → Stops at e (pieces_rest_at room places part all bytes) → IsCut (pieces_rest_at room places part all bytes) → ⊥
+pub cut_failed : (room : ℕ) (places : Places) (part : PiecesPart) (all bytes : List ℕ) (e : ReadError) (at : ℕ) → e ≢ read_errors.Truncated → e ≢ read_errors.Memory → Stops at e (pieces_rest_at room places part all bytes) → StopsTruncated (pieces_rest_at room places part all bytes) → ⊥
 cut_failed room places part all bytes read_errors.Truncated at other some stops cut = other refl
 cut_failed room places part all bytes read_errors.Version at other some stops cut = let bad : faults.Version ≡ Truncated = cut_fault _ faults.Version at cut stops in cc
 cut_failed room places part all bytes read_errors.Type at other some stops cut = let bad : faults.Type ≡ Truncated = cut_fault _ faults.Type at cut stops in cc

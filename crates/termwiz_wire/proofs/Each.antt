@@ -18,7 +18,7 @@ use Rattle.termwiz_cell.specs.ChangeValue.{ChangeValue}
 use Rattle.termwiz_wire.specs.Answers.{Halt, halted, each_at, next_at, changes_in}
 use Rattle.termwiz_wire.specs.Cuts.{refused}
 use Rattle.termwiz_wire.specs.MoreBytes.{halt}
-use Rattle.termwiz_wire.specs.Work.{bears, rows_of, spent_on}
+use Rattle.termwiz_wire.specs.Work.{bears, head_rows, spent_on}
 use Rattle.termwiz_wire.specs.declared.decode.heads.Head.{Head}
 use Rattle.termwiz_wire.specs.Decoding.{change_at}
 use Rattle.termwiz_wire.specs.Encoding.{change, changes}
@@ -58,11 +58,11 @@ apart : (measure : List ℕ → ℕ) (c : ChangeValue) (cs : List ChangeValue) (
 apart measure c cs rest = ap (λ (x : List ℕ). x ++ rest) (flat_map-cons (change measure) c cs) ∙ append_assoc (change measure c) (flat_map (change measure) cs) rest
 
 -- a change that the screen bears
-next_again : (measure : List ℕ → ℕ) (room : ℕ) (head : Option Head) (spent : ℕ) (c : ChangeValue) (rest : List ℕ) → IsChange measure c → FitsRows (rows_of head) c → bears head spent c ≡ true → next_at measure room head spent (change measure c ++ rest) ≡ Ok (c, rest)
+next_again : (measure : List ℕ → ℕ) (room : ℕ) (head : Option Head) (spent : ℕ) (c : ChangeValue) (rest : List ℕ) → IsChange measure c → FitsRows (head_rows head) c → bears head spent c ≡ true → next_at measure room head spent (change measure c ++ rest) ≡ Ok (c, rest)
 unfolding next_at
-next_again measure room head spent c rest is on borne = rw (change_again measure room (rows_of head) c rest is on, borne) refl
+next_again measure room head spent c rest is on borne = rw (change_again measure room (head_rows head) c rest is on, borne) refl
 
-pub each_again : (measure : List ℕ → ℕ) (room : ℕ) (head : Option Head) (made cs : List ChangeValue) (rest : List ℕ) → AllByRecursion (IsChange measure) cs → AllByRecursion (FitsRows (rows_of head)) cs → Bears head (made ++ cs) → each_at measure room head made (length cs) (flat_map (change measure) cs ++ rest) ≡ Ok (made ++ cs, rest)
+pub each_again : (measure : List ℕ → ℕ) (room : ℕ) (head : Option Head) (made cs : List ChangeValue) (rest : List ℕ) → AllByRecursion (IsChange measure) cs → AllByRecursion (FitsRows (head_rows head)) cs → Bears head (made ++ cs) → each_at measure room head made (length cs) (flat_map (change measure) cs ++ rest) ≡ Ok (made ++ cs, rest)
 unfolding each_at
 each_again measure room head made [] rest are on borne = ap (λ (x : List ChangeValue). Ok (x, rest)) (sym (append-nil made))
 each_again measure room head made (c ∷ cs) rest are on borne =
@@ -70,16 +70,16 @@ each_again measure room head made (c ∷ cs) rest are on borne =
     ∙ rw (next_again measure room head (spent_on head made) c (flat_map (change measure) cs ++ rest) are.0 on.0 (bears_next head made c cs borne)) (each_again measure room head (made ++ c ∷ []) cs rest are.1 on.1 (subst (λ (x : List ChangeValue). Bears head x) (sym (append_assoc made (c ∷ []) cs)) borne) ∙ ap (λ (x : List ChangeValue). Ok (x, rest)) (append_assoc made (c ∷ []) cs))
 
 -- one that it doesn't bear
-next_past : (measure : List ℕ → ℕ) (room : ℕ) (head : Option Head) (spent : ℕ) (c : ChangeValue) (rest : List ℕ) → IsChange measure c → FitsRows (rows_of head) c → bears head spent c ≡ false → FailsBy fault Limit (next_at measure room head spent (change measure c ++ rest))
+next_past : (measure : List ℕ → ℕ) (room : ℕ) (head : Option Head) (spent : ℕ) (c : ChangeValue) (rest : List ℕ) → IsChange measure c → FitsRows (head_rows head) c → bears head spent c ≡ false → FailsBy fault Limit (next_at measure room head spent (change measure c ++ rest))
 unfolding next_at
-next_past measure room head spent c rest is on past = rw (change_again measure room (rows_of head) c rest is on, past) refl
+next_past measure room head spent c rest is on past = rw (change_again measure room (head_rows head) c rest is on, past) refl
 
 halted_fails : {Y Z : Type 0} (k : Option ℕ) (r : Result Y Stop) (then : Y → Result Z Halt) → FailsBy fault Limit r → FailsBy halt Limit (halted k r >>= then)
 halted_fails k (Ok y) then fails = absurd fails
 halted_fails k (Err e) then fails = fails
 
 -- changes that the screen doesn't bear are past the limit
-pub each_past : (measure : List ℕ → ℕ) (room : ℕ) (head : Option Head) (made cs : List ChangeValue) (rest : List ℕ) → AllByRecursion (IsChange measure) cs → AllByRecursion (FitsRows (rows_of head)) cs → Bears head made → Passes head (made ++ cs) → FailsBy halt Limit (each_at measure room head made (length cs) (flat_map (change measure) cs ++ rest))
+pub each_past : (measure : List ℕ → ℕ) (room : ℕ) (head : Option Head) (made cs : List ChangeValue) (rest : List ℕ) → AllByRecursion (IsChange measure) cs → AllByRecursion (FitsRows (head_rows head)) cs → Bears head made → Passes head (made ++ cs) → FailsBy halt Limit (each_at measure room head made (length cs) (flat_map (change measure) cs ++ rest))
 unfolding each_at
 each_past measure room head made [] rest are on borne past = absurd (not_both head made borne (subst (λ (x : List ChangeValue). Passes head x) (append-nil made) past))
 each_past measure room head made (c ∷ cs) rest are on borne past =
@@ -107,20 +107,20 @@ pub record ChangesFound (measure : List ℕ → ℕ) (head : Option Head) (made 
   pub count : length changes ≡ n
   pub taken : Takes bytes (flat_map (change measure) changes) x.1
   pub each : AllByRecursion (IsChange measure) changes
-  pub on : AllByRecursion (FitsRows (rows_of head)) changes
+  pub on : AllByRecursion (FitsRows (head_rows head)) changes
   pub borne : Bears head made → Bears head x.0
 
 -- a change that was decoded is one that the screen bears
-next_takes : (measure : List ℕ → ℕ) (room : ℕ) (head : Option Head) (spent : ℕ) (bytes : List ℕ) (x : ChangeValue × List ℕ) → next_at measure room head spent bytes ≡ Ok x → (change_at measure room (rows_of head) bytes ≡ Ok x) × (bears head spent x.0 ≡ true)
+next_takes : (measure : List ℕ → ℕ) (room : ℕ) (head : Option Head) (spent : ℕ) (bytes : List ℕ) (x : ChangeValue × List ℕ) → next_at measure room head spent bytes ≡ Ok x → (change_at measure room (head_rows head) bytes ≡ Ok x) × (bears head spent x.0 ≡ true)
 unfolding next_at
 next_takes measure room head spent bytes x e =
-    let c = bind_ok (change_at measure room (rows_of head) bytes) (λ c. cond (bears head spent c.0) (Ok c) (refused faults.Limit room bytes)) x e in
+    let c = bind_ok (change_at measure room (head_rows head) bytes) (λ c. cond (bears head spent c.0) (Ok c) (refused faults.Limit room bytes)) x e in
     let g = guard_ended (bears head spent c.0.0) (stopped faults.Limit room bytes) c.0 x c.2 in
-    subst (λ (y : ChangeValue × List ℕ). (change_at measure room (rows_of head) bytes ≡ Ok y) × (bears head spent y.0 ≡ true)) g.1 (c.1, g.0)
+    subst (λ (y : ChangeValue × List ℕ). (change_at measure room (head_rows head) bytes ≡ Ok y) × (bears head spent y.0 ≡ true)) g.1 (c.1, g.0)
 
 -- what was decoded next in an answer
 pub next_found : (measure : List ℕ → ℕ) (room : ℕ) (head : Option Head) (spent : ℕ) (bytes : List ℕ) (x : ChangeValue × List ℕ) → IsBytes bytes → next_at measure room head spent bytes ≡ Ok x → Takes bytes (change measure x.0) x.1
-next_found measure room head spent bytes x fits e = (change_takes measure room (rows_of head) bytes x fits (next_takes measure room head spent bytes x e).0).0
+next_found measure room head spent bytes x fits e = (change_takes measure room (head_rows head) bytes x fits (next_takes measure room head spent bytes x e).0).0
 
 pub each_takes : (measure : List ℕ → ℕ) (room : ℕ) (head : Option Head) (n : ℕ) (made : List ChangeValue) (bytes : List ℕ) (x : List ChangeValue × List ℕ) → IsBytes bytes → each_at measure room head made n bytes ≡ Ok x → ChangesFound measure head made n bytes x
 unfolding each_at
@@ -131,7 +131,7 @@ each_takes measure room head (suc n) made bytes x fits e =
     let spent : ℕ = spent_on head made in
     let first = bind_ok (halted (Some (length made)) (next_at measure room head spent bytes)) (λ c. each_at measure room head (made ++ c.0 ∷ []) n c.1) x e in
     let next = next_takes measure room head spent bytes first.0 (halted_ok (Some (length made)) (next_at measure room head spent bytes) first.0 first.1) in
-    let t = change_takes measure room (rows_of head) bytes first.0 fits next.0 in
+    let t = change_takes measure room (head_rows head) bytes first.0 fits next.0 in
     let c : ChangeValue = first.0.0 in
     let more = each_takes measure room head n (made ++ c ∷ []) first.0.1 x t.0.rest_fits first.2 in
     record {
@@ -145,7 +145,7 @@ each_takes measure room head (suc n) made bytes x fits e =
     }
 
 -- the changes after a head that says how many there are
-pub listed_takes : (measure : List ℕ → ℕ) (room : ℕ) (head : Option Head) (n : ℕ) (before bytes : List ℕ) (x : List ChangeValue × List ℕ) → Takes before (array n) bytes → n < 2 ^ 64 → each_at measure room head [] n bytes ≡ Ok x → Takes before (changes measure x.0) x.1 × AreChanges measure x.0 × AllByRecursion (FitsRows (rows_of head)) x.0 × Bears head x.0
+pub listed_takes : (measure : List ℕ → ℕ) (room : ℕ) (head : Option Head) (n : ℕ) (before bytes : List ℕ) (x : List ChangeValue × List ℕ) → Takes before (array n) bytes → n < 2 ^ 64 → each_at measure room head [] n bytes ≡ Ok x → Takes before (changes measure x.0) x.1 × AreChanges measure x.0 × AllByRecursion (FitsRows (head_rows head)) x.0 × Bears head x.0
 unfolding changes
 listed_takes measure room head n before bytes x opened lt e =
     let tc = each_takes measure room head n [] bytes x opened.rest_fits e in
@@ -153,7 +153,7 @@ listed_takes measure room head n before bytes x opened lt e =
     let counted = subst (λ (k : ℕ). Takes before (array k ++ flat_map (change measure) tc.changes) x.1) (sym tc.count) all in
     let few : length tc.changes < 2 ^ 64 = omega (arith, lt, tc.count) in
     let are : AreChanges measure tc.changes = record { count = few; each = tc.each } in
-    subst (λ (cs : List ChangeValue). Takes before (array (length cs) ++ flat_map (change measure) cs) x.1 × AreChanges measure cs × AllByRecursion (FitsRows (rows_of head)) cs × Bears head cs) (sym tc.made_is) (counted, are, tc.on, subst (λ (cs : List ChangeValue). Bears head cs) tc.made_is (tc.borne (bears_none head)))
+    subst (λ (cs : List ChangeValue). Takes before (array (length cs) ++ flat_map (change measure) cs) x.1 × AreChanges measure cs × AllByRecursion (FitsRows (head_rows head)) cs × Bears head cs) (sym tc.made_is) (counted, are, tc.on, subst (λ (cs : List ChangeValue). Bears head cs) tc.made_is (tc.borne (bears_none head)))
 
 pub changes_takes : (measure : List ℕ → ℕ) (room : ℕ) (bytes : List ℕ) (x : List ChangeValue × List ℕ) → IsBytes bytes → changes_in measure room None bytes ≡ Ok x → Takes bytes (changes measure x.0) x.1
 unfolding changes_in

@@ -27,7 +27,7 @@ use Rattle.termwiz_cell.specs.declared.color.ColorAttribute.TheVariants as color
 use Rattle.termwiz_cell.specs.declared.change.Position.{Position}
 use Rattle.termwiz_cell.specs.declared.change.Position.TheVariants.{Relative, Absolute, EndRelative}
 use Rattle.termwiz_wire.specs.Encoding.{color, param, link, optional_link, attributes, attribute_kind, attribute_value, attribute_change, position, is_visible, scroll, change_kind, change_count, change_values, item_count, run, pieces, change}
-use Rattle.termwiz_wire.specs.Decoding.{palette_at, rgb_at, rgb_palette_at, color_by, color_at, styled, style_at, ascends, which_at, key_at, param_at, params_at, link_at, optional_link_by, optional_link_at, attributes_at, attribute_change_by, attribute_change_at, position_by, position_at, place_at, is_on, region_size_at, scroll_at, printed_at, visibility_of, change_by, has_count, count_at, change_kind_at, change_at}
+use Rattle.termwiz_wire.specs.Decoding.{palette_at, rgb_item_at, rgb_palette_at, color_by, color_item_at, styled, style_item_at, ascends, which_at, key_at, param_item_at, params_at, link_at, optional_link_by, optional_link_at, attributes_at, attribute_change_by, attribute_change_at, position_by, position_at, place_at, is_on, region_size_at, scroll_at, printed_at, visibility_of, change_by, has_count, count_at, change_kind_at, change_at}
 use Rattle.termwiz_wire.specs.Forms.{IsColor, IsParam, IsLink, IsOptionalLink, AreAttributes, IsAttributeChange, IsPosition, IsScroll, IsChange}
 use Rattle.termwiz_wire.specs.Pieces.{runs, needs_pieces}
 use Rattle.termwiz_wire.specs.Cuts.{refused, is_rest_at, is_run_at, are_at, same_at, cut_at, others_at, pieces_at, pieces_by}
@@ -51,8 +51,8 @@ palette_takes room bytes x fits e =
     let a = mapped (below_at room 256 bytes) colors.PaletteIndex x e in
     subst (λ (y : ColorAttribute × List ℕ). ColorFound bytes y) a.2 (number_takes room 256 bytes a.0 fits a.1)
 
-rgb_takes : (room : ℕ) (before bytes : List ℕ) (x : ColorAttribute × List ℕ) → Takes before (array 3) bytes → rgb_at room bytes ≡ Ok x → ColorFound before x
-unfolding rgb_at color
+rgb_takes : (room : ℕ) (before bytes : List ℕ) (x : ColorAttribute × List ℕ) → Takes before (array 3) bytes → rgb_item_at room bytes ≡ Ok x → ColorFound before x
+unfolding rgb_item_at color
 rgb_takes room before bytes x first e =
     let r = bind_ok (below_at room 256 bytes) (λ r. below_at room 256 r.1 >>= λ g. below_at room 256 g.1 >>= λ b. ok (colors.TrueColorWithDefaultFallback (rgb r.0 g.0 b.0)) b.1) x e in
     let g = bind_ok (below_at room 256 r.0.1) (λ g. below_at room 256 g.1 >>= λ b. ok (colors.TrueColorWithDefaultFallback (rgb r.0.0 g.0 b.0)) b.1) x r.2 in
@@ -90,9 +90,9 @@ default_takes room bytes x fits e =
 
 color_array_takes : (room : ℕ) (bytes : List ℕ) (x : ColorAttribute × List ℕ) → IsBytes bytes → color_by room kinds.Array bytes ≡ Ok x → ColorFound bytes x
 color_array_takes room bytes x fits e =
-    let a = bind_ok (array_at room bytes) (λ n. cond (eqb n.0 3) (rgb_at room n.1) (cond (eqb n.0 4) (rgb_palette_at room n.1) (refused faults.Type room bytes))) x e in
+    let a = bind_ok (array_at room bytes) (λ n. cond (eqb n.0 3) (rgb_item_at room n.1) (cond (eqb n.0 4) (rgb_palette_at room n.1) (refused faults.Type room bytes))) x e in
     let t = array_takes room bytes a.0 fits a.1 in
-    picks a.0.0 3 (rgb_at room a.0.1) (cond (eqb a.0.0 4) (rgb_palette_at room a.0.1) (refused faults.Type room bytes)) x a.2
+    picks a.0.0 3 (rgb_item_at room a.0.1) (cond (eqb a.0.0 4) (rgb_palette_at room a.0.1) (refused faults.Type room bytes)) x a.2
     (λ is read. rgb_takes room bytes a.0.1 x (subst (λ (k : ℕ). Takes bytes (array k) a.0.1) is t.0) read)
     (λ more. picks a.0.0 4 (rgb_palette_at room a.0.1) (refused faults.Type room bytes) x more
     (λ is read. rgb_palette_takes room bytes a.0.1 x (subst (λ (k : ℕ). Takes bytes (array k) a.0.1) is t.0) read)
@@ -107,8 +107,8 @@ color_by_takes room kinds.Text bytes x fits e = never (stopped faults.Type room 
 color_by_takes room kinds.Boolean bytes x fits e = never (stopped faults.Type room bytes) x e
 color_by_takes room kinds.Other bytes x fits e = never (stopped faults.Type room bytes) x e
 
-pub color_takes : (room : ℕ) (bytes : List ℕ) (x : ColorAttribute × List ℕ) → IsBytes bytes → color_at room bytes ≡ Ok x → ColorFound bytes x
-unfolding color_at
+pub color_takes : (room : ℕ) (bytes : List ℕ) (x : ColorAttribute × List ℕ) → IsBytes bytes → color_item_at room bytes ≡ Ok x → ColorFound bytes x
+unfolding color_item_at
 color_takes room bytes x fits e =
     let a = bind_ok (kind_at room bytes) (λ k. color_by room k bytes) x e in
     color_by_takes room a.0 bytes x fits a.2
@@ -126,8 +126,8 @@ key_takes room made bytes x fits e =
     let t = text_takes room bytes a.0 fits a.1 in
     subst (λ (y : List ℕ × List ℕ). Takes bytes (text y.0) y.1 × IsText y.0 × (ascends made y.0 ≡ true)) g.1 (t.0, t.1, g.0)
 
-param_takes : (room : ℕ) (made : List Param) (bytes : List ℕ) (x : Param × List ℕ) → IsBytes bytes → param_at room made bytes ≡ Ok x → Takes bytes (param x.0) x.1 × IsParam x.0 × (ascends made x.0.0 ≡ true)
-unfolding param_at param
+param_takes : (room : ℕ) (made : List Param) (bytes : List ℕ) (x : Param × List ℕ) → IsBytes bytes → param_item_at room made bytes ≡ Ok x → Takes bytes (param x.0) x.1 × IsParam x.0 × (ascends made x.0.0 ≡ true)
+unfolding param_item_at param
 param_takes room made bytes x fits e =
     let start = bind_ok (array_of_at room 2 bytes) (λ start. key_at room made start >>= λ key. text_at room key.1 >>= λ value. ok (key.0, value.0) value.1) x e in
     let key = bind_ok (key_at room made start.0) (λ key. text_at room key.1 >>= λ value. ok (key.0, value.0) value.1) x start.2 in
@@ -153,7 +153,7 @@ params_takes room zero made bytes x fits ordered e =
     subst (λ (y : List Param × List ℕ). ParamsFound made zero bytes y) (ok_is (made, bytes) x e)
     (record { params = []; made_is = sym (append-nil made); count = refl; taken = record { parts = refl; rest_fits = fits }; each = tt; ordered = ordered })
 params_takes room (suc n) made bytes x fits ordered e =
-    let first = bind_ok (param_at room made bytes) (λ p. params_at room (made ++ p.0 ∷ []) n p.1) x e in
+    let first = bind_ok (param_item_at room made bytes) (λ p. params_at room (made ++ p.0 ∷ []) n p.1) x e in
     let t = param_takes room made bytes first.0 fits first.1 in
     let p : Param = first.0.0 in
     let more = params_takes room n (made ++ p ∷ []) first.0.1 x t.0.rest_fits (order-push made p ordered t.2) first.2 in
@@ -224,11 +224,11 @@ attributed n f b u l = record (styled n) { foreground = f; background = b; under
 attributes_takes : (room : ℕ) (bytes : List ℕ) (x : Attributes × List ℕ) → IsBytes bytes → attributes_at room bytes ≡ Ok x → Takes bytes (attributes x.0) x.1 × AreAttributes x.0
 unfolding attributes_at attributes
 attributes_takes room bytes x fits e =
-    let start = bind_ok (array_of_at room 5 bytes) (λ start. style_at room start >>= λ n. color_at room n.1 >>= λ f. color_at room f.1 >>= λ b. color_at room b.1 >>= λ u. optional_link_at room u.1 >>= λ l. ok (attributed n.0 f.0 b.0 u.0 l.0) l.1) x e in
-    let n = bind_ok (style_at room start.0) (λ n. color_at room n.1 >>= λ f. color_at room f.1 >>= λ b. color_at room b.1 >>= λ u. optional_link_at room u.1 >>= λ l. ok (attributed n.0 f.0 b.0 u.0 l.0) l.1) x start.2 in
-    let f = bind_ok (color_at room n.0.1) (λ f. color_at room f.1 >>= λ b. color_at room b.1 >>= λ u. optional_link_at room u.1 >>= λ l. ok (attributed n.0.0 f.0 b.0 u.0 l.0) l.1) x n.2 in
-    let b = bind_ok (color_at room f.0.1) (λ b. color_at room b.1 >>= λ u. optional_link_at room u.1 >>= λ l. ok (attributed n.0.0 f.0.0 b.0 u.0 l.0) l.1) x f.2 in
-    let u = bind_ok (color_at room b.0.1) (λ u. optional_link_at room u.1 >>= λ l. ok (attributed n.0.0 f.0.0 b.0.0 u.0 l.0) l.1) x b.2 in
+    let start = bind_ok (array_of_at room 5 bytes) (λ start. style_item_at room start >>= λ n. color_item_at room n.1 >>= λ f. color_item_at room f.1 >>= λ b. color_item_at room b.1 >>= λ u. optional_link_at room u.1 >>= λ l. ok (attributed n.0 f.0 b.0 u.0 l.0) l.1) x e in
+    let n = bind_ok (style_item_at room start.0) (λ n. color_item_at room n.1 >>= λ f. color_item_at room f.1 >>= λ b. color_item_at room b.1 >>= λ u. optional_link_at room u.1 >>= λ l. ok (attributed n.0 f.0 b.0 u.0 l.0) l.1) x start.2 in
+    let f = bind_ok (color_item_at room n.0.1) (λ f. color_item_at room f.1 >>= λ b. color_item_at room b.1 >>= λ u. optional_link_at room u.1 >>= λ l. ok (attributed n.0.0 f.0 b.0 u.0 l.0) l.1) x n.2 in
+    let b = bind_ok (color_item_at room f.0.1) (λ b. color_item_at room b.1 >>= λ u. optional_link_at room u.1 >>= λ l. ok (attributed n.0.0 f.0.0 b.0 u.0 l.0) l.1) x f.2 in
+    let u = bind_ok (color_item_at room b.0.1) (λ u. optional_link_at room u.1 >>= λ l. ok (attributed n.0.0 f.0.0 b.0.0 u.0 l.0) l.1) x b.2 in
     let l = bind_ok (optional_link_at room u.0.1) (λ l. ok (attributed n.0.0 f.0.0 b.0.0 u.0.0 l.0) l.1) x u.2 in
     let ts = array_of_takes room 5 bytes start.0 fits start.1 in
     let tn = style_takes room start.0 n.0 ts.rest_fits n.1 in
@@ -264,24 +264,24 @@ number_found room limit number bytes v fits back e =
 attribute_value_takes : (room : ℕ) (kind : ℕ) (bytes : List ℕ) (x : AttributeChangeValue × List ℕ) → IsBytes bytes → attribute_change_by room kind bytes ≡ Ok x → ValueFound kind bytes x
 unfolding attribute_value
 attribute_value_takes room kind bytes x fits e =
-    picks kind 0 (below_at room 3 bytes >>= λ v. ok (attribute.Intensity (intensity_at v.0)) v.1) (cond (eqb kind 1) (below_at room 6 bytes >>= λ v. ok (attribute.Underline (underline_at v.0)) v.1) (cond (eqb kind 2) (boolean_at room bytes >>= λ v. ok (attribute.Italic v.0) v.1) (cond (eqb kind 3) (below_at room 3 bytes >>= λ v. ok (attribute.Blink (blink_at v.0)) v.1) (cond (eqb kind 4) (boolean_at room bytes >>= λ v. ok (attribute.Reverse v.0) v.1) (cond (eqb kind 5) (boolean_at room bytes >>= λ v. ok (attribute.StrikeThrough v.0) v.1) (cond (eqb kind 6) (boolean_at room bytes >>= λ v. ok (attribute.Invisible v.0) v.1) (cond (eqb kind 7) (color_at room bytes >>= λ v. ok (attribute.Foreground v.0) v.1) (cond (eqb kind 8) (color_at room bytes >>= λ v. ok (attribute.Background v.0) v.1) (cond (eqb kind 9) (optional_link_at room bytes >>= λ v. ok (attribute.Hyperlink v.0) v.1) (refused faults.Type room bytes)))))))))) x e
+    picks kind 0 (below_at room 3 bytes >>= λ v. ok (attribute.Intensity (intensity_at v.0)) v.1) (cond (eqb kind 1) (below_at room 6 bytes >>= λ v. ok (attribute.Underline (underline_at v.0)) v.1) (cond (eqb kind 2) (boolean_at room bytes >>= λ v. ok (attribute.Italic v.0) v.1) (cond (eqb kind 3) (below_at room 3 bytes >>= λ v. ok (attribute.Blink (blink_at v.0)) v.1) (cond (eqb kind 4) (boolean_at room bytes >>= λ v. ok (attribute.Reverse v.0) v.1) (cond (eqb kind 5) (boolean_at room bytes >>= λ v. ok (attribute.StrikeThrough v.0) v.1) (cond (eqb kind 6) (boolean_at room bytes >>= λ v. ok (attribute.Invisible v.0) v.1) (cond (eqb kind 7) (color_item_at room bytes >>= λ v. ok (attribute.Foreground v.0) v.1) (cond (eqb kind 8) (color_item_at room bytes >>= λ v. ok (attribute.Background v.0) v.1) (cond (eqb kind 9) (optional_link_at room bytes >>= λ v. ok (attribute.Hyperlink v.0) v.1) (refused faults.Type room bytes)))))))))) x e
     (λ is read. value_found kind 0 bytes (below_at room 3 bytes) (λ v. attribute.Intensity (intensity_at v)) x is read (λ v found. (number_found room 3 (λ n. intensity_number (intensity_at n)) bytes v fits intensity-found found, refl, tt)))
-    (λ more. picks kind 1 (below_at room 6 bytes >>= λ v. ok (attribute.Underline (underline_at v.0)) v.1) (cond (eqb kind 2) (boolean_at room bytes >>= λ v. ok (attribute.Italic v.0) v.1) (cond (eqb kind 3) (below_at room 3 bytes >>= λ v. ok (attribute.Blink (blink_at v.0)) v.1) (cond (eqb kind 4) (boolean_at room bytes >>= λ v. ok (attribute.Reverse v.0) v.1) (cond (eqb kind 5) (boolean_at room bytes >>= λ v. ok (attribute.StrikeThrough v.0) v.1) (cond (eqb kind 6) (boolean_at room bytes >>= λ v. ok (attribute.Invisible v.0) v.1) (cond (eqb kind 7) (color_at room bytes >>= λ v. ok (attribute.Foreground v.0) v.1) (cond (eqb kind 8) (color_at room bytes >>= λ v. ok (attribute.Background v.0) v.1) (cond (eqb kind 9) (optional_link_at room bytes >>= λ v. ok (attribute.Hyperlink v.0) v.1) (refused faults.Type room bytes))))))))) x more
+    (λ more. picks kind 1 (below_at room 6 bytes >>= λ v. ok (attribute.Underline (underline_at v.0)) v.1) (cond (eqb kind 2) (boolean_at room bytes >>= λ v. ok (attribute.Italic v.0) v.1) (cond (eqb kind 3) (below_at room 3 bytes >>= λ v. ok (attribute.Blink (blink_at v.0)) v.1) (cond (eqb kind 4) (boolean_at room bytes >>= λ v. ok (attribute.Reverse v.0) v.1) (cond (eqb kind 5) (boolean_at room bytes >>= λ v. ok (attribute.StrikeThrough v.0) v.1) (cond (eqb kind 6) (boolean_at room bytes >>= λ v. ok (attribute.Invisible v.0) v.1) (cond (eqb kind 7) (color_item_at room bytes >>= λ v. ok (attribute.Foreground v.0) v.1) (cond (eqb kind 8) (color_item_at room bytes >>= λ v. ok (attribute.Background v.0) v.1) (cond (eqb kind 9) (optional_link_at room bytes >>= λ v. ok (attribute.Hyperlink v.0) v.1) (refused faults.Type room bytes))))))))) x more
     (λ is read. value_found kind 1 bytes (below_at room 6 bytes) (λ v. attribute.Underline (underline_at v)) x is read (λ v found. (number_found room 6 (λ n. underline_number (underline_at n)) bytes v fits underline-found found, refl, tt)))
-    (λ more. picks kind 2 (boolean_at room bytes >>= λ v. ok (attribute.Italic v.0) v.1) (cond (eqb kind 3) (below_at room 3 bytes >>= λ v. ok (attribute.Blink (blink_at v.0)) v.1) (cond (eqb kind 4) (boolean_at room bytes >>= λ v. ok (attribute.Reverse v.0) v.1) (cond (eqb kind 5) (boolean_at room bytes >>= λ v. ok (attribute.StrikeThrough v.0) v.1) (cond (eqb kind 6) (boolean_at room bytes >>= λ v. ok (attribute.Invisible v.0) v.1) (cond (eqb kind 7) (color_at room bytes >>= λ v. ok (attribute.Foreground v.0) v.1) (cond (eqb kind 8) (color_at room bytes >>= λ v. ok (attribute.Background v.0) v.1) (cond (eqb kind 9) (optional_link_at room bytes >>= λ v. ok (attribute.Hyperlink v.0) v.1) (refused faults.Type room bytes)))))))) x more
+    (λ more. picks kind 2 (boolean_at room bytes >>= λ v. ok (attribute.Italic v.0) v.1) (cond (eqb kind 3) (below_at room 3 bytes >>= λ v. ok (attribute.Blink (blink_at v.0)) v.1) (cond (eqb kind 4) (boolean_at room bytes >>= λ v. ok (attribute.Reverse v.0) v.1) (cond (eqb kind 5) (boolean_at room bytes >>= λ v. ok (attribute.StrikeThrough v.0) v.1) (cond (eqb kind 6) (boolean_at room bytes >>= λ v. ok (attribute.Invisible v.0) v.1) (cond (eqb kind 7) (color_item_at room bytes >>= λ v. ok (attribute.Foreground v.0) v.1) (cond (eqb kind 8) (color_item_at room bytes >>= λ v. ok (attribute.Background v.0) v.1) (cond (eqb kind 9) (optional_link_at room bytes >>= λ v. ok (attribute.Hyperlink v.0) v.1) (refused faults.Type room bytes)))))))) x more
     (λ is read. value_found kind 2 bytes (boolean_at room bytes) attribute.Italic x is read (λ v found. (boolean_takes room bytes v fits found, refl, tt)))
-    (λ more. picks kind 3 (below_at room 3 bytes >>= λ v. ok (attribute.Blink (blink_at v.0)) v.1) (cond (eqb kind 4) (boolean_at room bytes >>= λ v. ok (attribute.Reverse v.0) v.1) (cond (eqb kind 5) (boolean_at room bytes >>= λ v. ok (attribute.StrikeThrough v.0) v.1) (cond (eqb kind 6) (boolean_at room bytes >>= λ v. ok (attribute.Invisible v.0) v.1) (cond (eqb kind 7) (color_at room bytes >>= λ v. ok (attribute.Foreground v.0) v.1) (cond (eqb kind 8) (color_at room bytes >>= λ v. ok (attribute.Background v.0) v.1) (cond (eqb kind 9) (optional_link_at room bytes >>= λ v. ok (attribute.Hyperlink v.0) v.1) (refused faults.Type room bytes))))))) x more
+    (λ more. picks kind 3 (below_at room 3 bytes >>= λ v. ok (attribute.Blink (blink_at v.0)) v.1) (cond (eqb kind 4) (boolean_at room bytes >>= λ v. ok (attribute.Reverse v.0) v.1) (cond (eqb kind 5) (boolean_at room bytes >>= λ v. ok (attribute.StrikeThrough v.0) v.1) (cond (eqb kind 6) (boolean_at room bytes >>= λ v. ok (attribute.Invisible v.0) v.1) (cond (eqb kind 7) (color_item_at room bytes >>= λ v. ok (attribute.Foreground v.0) v.1) (cond (eqb kind 8) (color_item_at room bytes >>= λ v. ok (attribute.Background v.0) v.1) (cond (eqb kind 9) (optional_link_at room bytes >>= λ v. ok (attribute.Hyperlink v.0) v.1) (refused faults.Type room bytes))))))) x more
     (λ is read. value_found kind 3 bytes (below_at room 3 bytes) (λ v. attribute.Blink (blink_at v)) x is read (λ v found. (number_found room 3 (λ n. blink_number (blink_at n)) bytes v fits blink-found found, refl, tt)))
-    (λ more. picks kind 4 (boolean_at room bytes >>= λ v. ok (attribute.Reverse v.0) v.1) (cond (eqb kind 5) (boolean_at room bytes >>= λ v. ok (attribute.StrikeThrough v.0) v.1) (cond (eqb kind 6) (boolean_at room bytes >>= λ v. ok (attribute.Invisible v.0) v.1) (cond (eqb kind 7) (color_at room bytes >>= λ v. ok (attribute.Foreground v.0) v.1) (cond (eqb kind 8) (color_at room bytes >>= λ v. ok (attribute.Background v.0) v.1) (cond (eqb kind 9) (optional_link_at room bytes >>= λ v. ok (attribute.Hyperlink v.0) v.1) (refused faults.Type room bytes)))))) x more
+    (λ more. picks kind 4 (boolean_at room bytes >>= λ v. ok (attribute.Reverse v.0) v.1) (cond (eqb kind 5) (boolean_at room bytes >>= λ v. ok (attribute.StrikeThrough v.0) v.1) (cond (eqb kind 6) (boolean_at room bytes >>= λ v. ok (attribute.Invisible v.0) v.1) (cond (eqb kind 7) (color_item_at room bytes >>= λ v. ok (attribute.Foreground v.0) v.1) (cond (eqb kind 8) (color_item_at room bytes >>= λ v. ok (attribute.Background v.0) v.1) (cond (eqb kind 9) (optional_link_at room bytes >>= λ v. ok (attribute.Hyperlink v.0) v.1) (refused faults.Type room bytes)))))) x more
     (λ is read. value_found kind 4 bytes (boolean_at room bytes) attribute.Reverse x is read (λ v found. (boolean_takes room bytes v fits found, refl, tt)))
-    (λ more. picks kind 5 (boolean_at room bytes >>= λ v. ok (attribute.StrikeThrough v.0) v.1) (cond (eqb kind 6) (boolean_at room bytes >>= λ v. ok (attribute.Invisible v.0) v.1) (cond (eqb kind 7) (color_at room bytes >>= λ v. ok (attribute.Foreground v.0) v.1) (cond (eqb kind 8) (color_at room bytes >>= λ v. ok (attribute.Background v.0) v.1) (cond (eqb kind 9) (optional_link_at room bytes >>= λ v. ok (attribute.Hyperlink v.0) v.1) (refused faults.Type room bytes))))) x more
+    (λ more. picks kind 5 (boolean_at room bytes >>= λ v. ok (attribute.StrikeThrough v.0) v.1) (cond (eqb kind 6) (boolean_at room bytes >>= λ v. ok (attribute.Invisible v.0) v.1) (cond (eqb kind 7) (color_item_at room bytes >>= λ v. ok (attribute.Foreground v.0) v.1) (cond (eqb kind 8) (color_item_at room bytes >>= λ v. ok (attribute.Background v.0) v.1) (cond (eqb kind 9) (optional_link_at room bytes >>= λ v. ok (attribute.Hyperlink v.0) v.1) (refused faults.Type room bytes))))) x more
     (λ is read. value_found kind 5 bytes (boolean_at room bytes) attribute.StrikeThrough x is read (λ v found. (boolean_takes room bytes v fits found, refl, tt)))
-    (λ more. picks kind 6 (boolean_at room bytes >>= λ v. ok (attribute.Invisible v.0) v.1) (cond (eqb kind 7) (color_at room bytes >>= λ v. ok (attribute.Foreground v.0) v.1) (cond (eqb kind 8) (color_at room bytes >>= λ v. ok (attribute.Background v.0) v.1) (cond (eqb kind 9) (optional_link_at room bytes >>= λ v. ok (attribute.Hyperlink v.0) v.1) (refused faults.Type room bytes)))) x more
+    (λ more. picks kind 6 (boolean_at room bytes >>= λ v. ok (attribute.Invisible v.0) v.1) (cond (eqb kind 7) (color_item_at room bytes >>= λ v. ok (attribute.Foreground v.0) v.1) (cond (eqb kind 8) (color_item_at room bytes >>= λ v. ok (attribute.Background v.0) v.1) (cond (eqb kind 9) (optional_link_at room bytes >>= λ v. ok (attribute.Hyperlink v.0) v.1) (refused faults.Type room bytes)))) x more
     (λ is read. value_found kind 6 bytes (boolean_at room bytes) attribute.Invisible x is read (λ v found. (boolean_takes room bytes v fits found, refl, tt)))
-    (λ more. picks kind 7 (color_at room bytes >>= λ v. ok (attribute.Foreground v.0) v.1) (cond (eqb kind 8) (color_at room bytes >>= λ v. ok (attribute.Background v.0) v.1) (cond (eqb kind 9) (optional_link_at room bytes >>= λ v. ok (attribute.Hyperlink v.0) v.1) (refused faults.Type room bytes))) x more
-    (λ is read. value_found kind 7 bytes (color_at room bytes) attribute.Foreground x is read (λ v found. let t = color_takes room bytes v fits found in (t.0, refl, t.1)))
-    (λ more. picks kind 8 (color_at room bytes >>= λ v. ok (attribute.Background v.0) v.1) (cond (eqb kind 9) (optional_link_at room bytes >>= λ v. ok (attribute.Hyperlink v.0) v.1) (refused faults.Type room bytes)) x more
-    (λ is read. value_found kind 8 bytes (color_at room bytes) attribute.Background x is read (λ v found. let t = color_takes room bytes v fits found in (t.0, refl, t.1)))
+    (λ more. picks kind 7 (color_item_at room bytes >>= λ v. ok (attribute.Foreground v.0) v.1) (cond (eqb kind 8) (color_item_at room bytes >>= λ v. ok (attribute.Background v.0) v.1) (cond (eqb kind 9) (optional_link_at room bytes >>= λ v. ok (attribute.Hyperlink v.0) v.1) (refused faults.Type room bytes))) x more
+    (λ is read. value_found kind 7 bytes (color_item_at room bytes) attribute.Foreground x is read (λ v found. let t = color_takes room bytes v fits found in (t.0, refl, t.1)))
+    (λ more. picks kind 8 (color_item_at room bytes >>= λ v. ok (attribute.Background v.0) v.1) (cond (eqb kind 9) (optional_link_at room bytes >>= λ v. ok (attribute.Hyperlink v.0) v.1) (refused faults.Type room bytes)) x more
+    (λ is read. value_found kind 8 bytes (color_item_at room bytes) attribute.Background x is read (λ v found. let t = color_takes room bytes v fits found in (t.0, refl, t.1)))
     (λ more. picks kind 9 (optional_link_at room bytes >>= λ v. ok (attribute.Hyperlink v.0) v.1) (refused faults.Type room bytes) x more
     (λ is read. value_found kind 9 bytes (optional_link_at room bytes) attribute.Hyperlink x is read (λ v found. let t = optional_link_takes room bytes v fits found in (t.0, refl, t.1)))
     (λ none. never (stopped faults.Type room bytes) x none))))))))))
@@ -564,19 +564,19 @@ abbrev or_8 : (List ℕ → ℕ) → ℕ → Option ℕ → ℕ → ℕ → List
 or_8 measure room rows count kind bytes = cond (eqb kind 8) (below_at room 7 bytes >>= λ v. ok (changed.CursorShape (shape_at v.0)) v.1) (or_9 measure room rows count kind bytes)
 
 abbrev or_7 : (List ℕ → ℕ) → ℕ → Option ℕ → ℕ → ℕ → List ℕ → Read
-or_7 measure room rows count kind bytes = cond (eqb kind 7) (color_at room bytes >>= λ v. ok (changed.CursorColor v.0) v.1) (or_8 measure room rows count kind bytes)
+or_7 measure room rows count kind bytes = cond (eqb kind 7) (color_item_at room bytes >>= λ v. ok (changed.CursorColor v.0) v.1) (or_8 measure room rows count kind bytes)
 
 abbrev or_6 : (List ℕ → ℕ) → ℕ → Option ℕ → ℕ → ℕ → List ℕ → Read
 or_6 measure room rows count kind bytes = cond (eqb kind 6) (place_at room bytes) (or_7 measure room rows count kind bytes)
 
 abbrev or_5 : (List ℕ → ℕ) → ℕ → Option ℕ → ℕ → ℕ → List ℕ → Read
-or_5 measure room rows count kind bytes = cond (eqb kind 5) (color_at room bytes >>= λ v. ok (changed.ClearToEndOfScreen v.0) v.1) (or_6 measure room rows count kind bytes)
+or_5 measure room rows count kind bytes = cond (eqb kind 5) (color_item_at room bytes >>= λ v. ok (changed.ClearToEndOfScreen v.0) v.1) (or_6 measure room rows count kind bytes)
 
 abbrev or_4 : (List ℕ → ℕ) → ℕ → Option ℕ → ℕ → ℕ → List ℕ → Read
-or_4 measure room rows count kind bytes = cond (eqb kind 4) (color_at room bytes >>= λ v. ok (changed.ClearToEndOfLine v.0) v.1) (or_5 measure room rows count kind bytes)
+or_4 measure room rows count kind bytes = cond (eqb kind 4) (color_item_at room bytes >>= λ v. ok (changed.ClearToEndOfLine v.0) v.1) (or_5 measure room rows count kind bytes)
 
 abbrev or_3 : (List ℕ → ℕ) → ℕ → Option ℕ → ℕ → ℕ → List ℕ → Read
-or_3 measure room rows count kind bytes = cond (eqb kind 3) (color_at room bytes >>= λ v. ok (changed.ClearScreen v.0) v.1) (or_4 measure room rows count kind bytes)
+or_3 measure room rows count kind bytes = cond (eqb kind 3) (color_item_at room bytes >>= λ v. ok (changed.ClearScreen v.0) v.1) (or_4 measure room rows count kind bytes)
 
 abbrev or_2 : (List ℕ → ℕ) → ℕ → Option ℕ → ℕ → ℕ → List ℕ → Read
 or_2 measure room rows count kind bytes = cond (eqb kind 2) (printed_at measure room count bytes) (or_3 measure room rows count kind bytes)
@@ -599,16 +599,16 @@ change_values_takes measure room rows count kind bytes x fits e =
     (λ is read. values_found measure rows count kind 1 bytes (attributes_at room bytes) changed.AllAttributes x is read (λ v found. let t = attributes_takes room bytes v fits found in (record { taken = t.0; kind_is = refl; form = t.1; on = tt; items = refl })))
     (λ more. picks kind 2 (printed_at measure room count bytes) (or_3 measure room rows count kind bytes) x more
     (λ is read. subst (λ (k : ℕ). ValuesFound measure rows count k bytes x) (sym is) (printed_takes measure room rows count bytes x fits read))
-    (λ more. picks kind 3 (color_at room bytes >>= λ v. ok (changed.ClearScreen v.0) v.1) (or_4 measure room rows count kind bytes) x more
-    (λ is read. values_found measure rows count kind 3 bytes (color_at room bytes) changed.ClearScreen x is read (λ v found. let t = color_takes room bytes v fits found in (record { taken = t.0; kind_is = refl; form = t.1; on = tt; items = refl })))
-    (λ more. picks kind 4 (color_at room bytes >>= λ v. ok (changed.ClearToEndOfLine v.0) v.1) (or_5 measure room rows count kind bytes) x more
-    (λ is read. values_found measure rows count kind 4 bytes (color_at room bytes) changed.ClearToEndOfLine x is read (λ v found. let t = color_takes room bytes v fits found in (record { taken = t.0; kind_is = refl; form = t.1; on = tt; items = refl })))
-    (λ more. picks kind 5 (color_at room bytes >>= λ v. ok (changed.ClearToEndOfScreen v.0) v.1) (or_6 measure room rows count kind bytes) x more
-    (λ is read. values_found measure rows count kind 5 bytes (color_at room bytes) changed.ClearToEndOfScreen x is read (λ v found. let t = color_takes room bytes v fits found in (record { taken = t.0; kind_is = refl; form = t.1; on = tt; items = refl })))
+    (λ more. picks kind 3 (color_item_at room bytes >>= λ v. ok (changed.ClearScreen v.0) v.1) (or_4 measure room rows count kind bytes) x more
+    (λ is read. values_found measure rows count kind 3 bytes (color_item_at room bytes) changed.ClearScreen x is read (λ v found. let t = color_takes room bytes v fits found in (record { taken = t.0; kind_is = refl; form = t.1; on = tt; items = refl })))
+    (λ more. picks kind 4 (color_item_at room bytes >>= λ v. ok (changed.ClearToEndOfLine v.0) v.1) (or_5 measure room rows count kind bytes) x more
+    (λ is read. values_found measure rows count kind 4 bytes (color_item_at room bytes) changed.ClearToEndOfLine x is read (λ v found. let t = color_takes room bytes v fits found in (record { taken = t.0; kind_is = refl; form = t.1; on = tt; items = refl })))
+    (λ more. picks kind 5 (color_item_at room bytes >>= λ v. ok (changed.ClearToEndOfScreen v.0) v.1) (or_6 measure room rows count kind bytes) x more
+    (λ is read. values_found measure rows count kind 5 bytes (color_item_at room bytes) changed.ClearToEndOfScreen x is read (λ v found. let t = color_takes room bytes v fits found in (record { taken = t.0; kind_is = refl; form = t.1; on = tt; items = refl })))
     (λ more. picks kind 6 (place_at room bytes) (or_7 measure room rows count kind bytes) x more
     (λ is read. subst (λ (k : ℕ). ValuesFound measure rows count k bytes x) (sym is) (place_takes measure room rows count bytes x fits read))
-    (λ more. picks kind 7 (color_at room bytes >>= λ v. ok (changed.CursorColor v.0) v.1) (or_8 measure room rows count kind bytes) x more
-    (λ is read. values_found measure rows count kind 7 bytes (color_at room bytes) changed.CursorColor x is read (λ v found. let t = color_takes room bytes v fits found in (record { taken = t.0; kind_is = refl; form = t.1; on = tt; items = refl })))
+    (λ more. picks kind 7 (color_item_at room bytes >>= λ v. ok (changed.CursorColor v.0) v.1) (or_8 measure room rows count kind bytes) x more
+    (λ is read. values_found measure rows count kind 7 bytes (color_item_at room bytes) changed.CursorColor x is read (λ v found. let t = color_takes room bytes v fits found in (record { taken = t.0; kind_is = refl; form = t.1; on = tt; items = refl })))
     (λ more. picks kind 8 (below_at room 7 bytes >>= λ v. ok (changed.CursorShape (shape_at v.0)) v.1) (or_9 measure room rows count kind bytes) x more
     (λ is read. values_found measure rows count kind 8 bytes (below_at room 7 bytes) (λ v. changed.CursorShape (shape_at v)) x is read (λ v found. (record { taken = (number_found room 7 (λ n. shape_number (shape_at n)) bytes v fits shape-found found); kind_is = refl; form = tt; on = tt; items = refl })))
     (λ more. picks kind 9 (boolean_at room bytes >>= λ v. ok (changed.CursorVisibility (visibility_of v.0)) v.1) (or_10 measure room rows count kind bytes) x more

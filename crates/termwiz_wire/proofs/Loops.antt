@@ -6,7 +6,7 @@ use Rattle.cbor.specs.declared.error.ReadError.{ReadError}
 use Rattle.cbor.specs.Decoding.{◌>>=◌, Stop, Stops, fault_of}
 use Rattle.termwiz_cell.specs.ChangeValue.{ChangeValue}
 use Rattle.termwiz_wire.specs.Answers.{Halt, halted, each_at, next_at}
-use Rattle.termwiz_wire.specs.Decoding.{param_at, params_at}
+use Rattle.termwiz_wire.specs.Decoding.{param_item_at, params_at}
 use Rattle.termwiz_wire.specs.Work.{spent_on}
 use Rattle.termwiz_wire.specs.declared.decode.heads.Head.{Head}
 
@@ -45,18 +45,18 @@ pub params_none : (room : ℕ) (s : List Param) (bytes : List ℕ) → params_at
 unfolding params_at
 params_none room s bytes = refl
 
-pub params_some : (room : ℕ) (s : List Param) (n : ℕ) (bytes : List ℕ) → params_at room s (suc n) bytes ≡ (param_at room s bytes >>= λ x. params_at room (s ++ x.0 ∷ []) n x.1)
+pub params_some : (room : ℕ) (s : List Param) (n : ℕ) (bytes : List ℕ) → params_at room s (suc n) bytes ≡ (param_item_at room s bytes >>= λ x. params_at room (s ++ x.0 ∷ []) n x.1)
 unfolding params_at
 params_some room s n bytes = refl
 
-pub params_go_on : (room : ℕ) (s : List Param) (count i : ℕ) (bytes : List ℕ) (x : Param) (after : List ℕ) (total : Result (List Param × List ℕ) Stop) → i < count → param_at room s bytes ≡ Ok (x, after) → params_at room s (count - i) bytes ≡ total → params_at room (s ++ x ∷ []) (count - (i + 1)) after ≡ total
-params_go_on room = goes_on (param_at room) param_added (params_at room) (params_none room) (params_some room)
+pub params_go_on : (room : ℕ) (s : List Param) (count i : ℕ) (bytes : List ℕ) (x : Param) (after : List ℕ) (total : Result (List Param × List ℕ) Stop) → i < count → param_item_at room s bytes ≡ Ok (x, after) → params_at room s (count - i) bytes ≡ total → params_at room (s ++ x ∷ []) (count - (i + 1)) after ≡ total
+params_go_on room = goes_on (param_item_at room) param_added (params_at room) (params_none room) (params_some room)
 
-pub params_end : (room left : ℕ) (e : ReadError) (s : List Param) (count i : ℕ) (bytes : List ℕ) (total : Result (List Param × List ℕ) Stop) → i < count → Stops left e (param_at room s bytes) → params_at room s (count - i) bytes ≡ total → Stops left e total
-params_end room left e = ends_with (param_at room) param_added (params_at room) (params_none room) (params_some room) (fault_of e) (stop_at left)
+pub params_end : (room left : ℕ) (e : ReadError) (s : List Param) (count i : ℕ) (bytes : List ℕ) (total : Result (List Param × List ℕ) Stop) → i < count → Stops left e (param_item_at room s bytes) → params_at room s (count - i) bytes ≡ total → Stops left e total
+params_end room left e = ends_with (param_item_at room) param_added (params_at room) (params_none room) (params_some room) (fault_of e) (stop_at left)
 
 pub params_done : (room : ℕ) (s : List Param) (count i : ℕ) (bytes : List ℕ) (total : Result (List Param × List ℕ) Stop) → count ≤ i → params_at room s (count - i) bytes ≡ total → total ≡ Ok (s, bytes)
-params_done room = is_done (param_at room) param_added (params_at room) (params_none room) (params_some room)
+params_done room = is_done (param_item_at room) param_added (params_at room) (params_none room) (params_some room)
 
 -- changes
 abbrev change_next : (List ℕ → ℕ) → ℕ → Option Head → List ChangeValue → List ℕ → Result (ChangeValue × List ℕ) Halt

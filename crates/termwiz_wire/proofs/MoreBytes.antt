@@ -5,11 +5,11 @@ use Rattle.std.proofs.lemmas.Bool.{cases_lt, le-ltb}
 use Rattle.std.proofs.lemmas.List.{length-append, length-drop, length-take-le, take-append-drop, take-append-le, drop-append-le, take_all, drop_all}
 use Rattle.cbor.specs.declared.error.FaultKind.TheVariants.{Truncated}
 use Rattle.cbor.specs.Decoding.{ok, allowed, array_at, head_in}
-use Rattle.cbor.specs.Prefixes.{left, Stays, Reads, FailsBy, BeginningsOf}
+use Rattle.cbor.specs.Prefixes.{left, StaysDecoded, DecodesPrefixes, FailsBy, BeginningsOf}
 use Rattle.cbor.proofs.Prefixes.{beginnings}
 use Rattle.termwiz_wire.specs.Answers.{Halt, opened_at, head_at, answer_in, ask_in, changes_in, fault_at, halted, located, within, answer_at, ask_at, changes_at, one_change_at, unlimited}
 use Rattle.termwiz_wire.specs.Decoding.{change_at}
-use Rattle.termwiz_wire.specs.MoreBytes.{halt, kind, IsCut, Goes}
+use Rattle.termwiz_wire.specs.MoreBytes.{halt, kind, IsTruncated, Goes}
 use Rattle.termwiz_wire.specs.Sent.{IsSent, answer}
 use Rattle.termwiz_wire.specs.Within.{IsWithinLimits}
 use Rattle.termwiz_wire.specs.declared.fault.Fault.{Fault}
@@ -62,21 +62,21 @@ parts_within limit bytes more le =
 abbrev failed : {Z E : Type 0} → E → Result Z E
 failed e = Err e
 
-located_stays : {A : Type 0} (a b : ℕ) (past beyond near more : List ℕ) (r later : Result (A × List ℕ) Halt) → a ≡ b → near ++ beyond ≡ past ++ more → Stays halt left near r later → Stays kind left more (located a past r) (located b beyond later)
+located_stays : {A : Type 0} (a b : ℕ) (past beyond near more : List ℕ) (r later : Result (A × List ℕ) Halt) → a ≡ b → near ++ beyond ≡ past ++ more → StaysDecoded halt left near r later → StaysDecoded kind left more (located a past r) (located b beyond later)
 located_stays a b past beyond near more (Ok x) later same seam stay =
     ap (located b beyond) stay ∙ ap (λ (t : List ℕ). ok {E = Fault} x.0 t) (append_assoc x.1 near beyond ∙ ap (λ (t : List ℕ). x.1 ++ t) seam ∙ sym (append_assoc x.1 past more))
 located_stays a b past beyond near more (Err h) later same seam (inl want) = inl want
 located_stays {A = A} a b past beyond near more (Err h) later same seam (inr stay) =
     inr (ap (located b beyond) stay ∙ ap (λ (n : ℕ). failed {Z = A × List ℕ} (fault_at n h)) (sym same))
 
-parts_stay : {A : Type 0} (read : ℕ → List ℕ → Result (A × List ℕ) Halt) (limit : ℕ) (bytes more hand past near beyond : List ℕ) (room : ℕ) → Reads halt left read → AreParts limit bytes more hand past near beyond room → Stays kind left more (within read limit bytes) (within read limit (bytes ++ more))
+parts_stay : {A : Type 0} (read : ℕ → List ℕ → Result (A × List ℕ) Halt) (limit : ℕ) (bytes more hand past near beyond : List ℕ) (room : ℕ) → DecodesPrefixes halt left read → AreParts limit bytes more hand past near beyond room → StaysDecoded kind left more (within read limit bytes) (within read limit (bytes ++ more))
 parts_stay read limit bytes more hand past near beyond room reads are =
     let same : allowed (length near + room) hand ≡ allowed room (hand ++ near) = omega (arith, length-append hand near) in
     rw (are.hand_is, are.past_is, are.hand_later, are.past_later, are.room_is, are.room_later)
     (located_stays (allowed (length near + room) hand) (allowed room (hand ++ near)) past beyond near more (read (length near + room) hand) (read room (hand ++ near)) same are.seam (reads.stays room hand near))
 
 -- a value or a fault but for `Truncated` stays as it is
-pub within_stays : {A : Type 0} (read : ℕ → List ℕ → Result (A × List ℕ) Halt) (limit : ℕ) (bytes more : List ℕ) → Reads halt left read → Stays kind left more (within read limit bytes) (within read limit (bytes ++ more))
+pub within_stays : {A : Type 0} (read : ℕ → List ℕ → Result (A × List ℕ) Halt) (limit : ℕ) (bytes more : List ℕ) → DecodesPrefixes halt left read → StaysDecoded kind left more (within read limit bytes) (within read limit (bytes ++ more))
 within_stays read limit bytes more reads =
     elim (cases_lt limit (length bytes)) [
       | inl lt ↦ parts_stay read limit bytes more _ _ _ _ _ reads (parts_past limit bytes more lt)
@@ -85,19 +85,19 @@ within_stays read limit bytes more reads =
 
 -- ---- answers
 
-pub answer_stays : (measure : List ℕ → ℕ) (limits : Limits) (bytes more : List ℕ) → Stays kind left more (answer_at measure limits bytes) (answer_at measure limits (bytes ++ more))
+pub answer_stays : (measure : List ℕ → ℕ) (limits : Limits) (bytes more : List ℕ) → StaysDecoded kind left more (answer_at measure limits bytes) (answer_at measure limits (bytes ++ more))
 unfolding answer_at
 answer_stays measure limits bytes more = within_stays (λ room rest. answer_in measure room limits rest) limits.bytes bytes more (answer_reads measure limits)
 
-pub ask_stays : (bytes more : List ℕ) → Stays kind left more (ask_at bytes) (ask_at (bytes ++ more))
+pub ask_stays : (bytes more : List ℕ) → StaysDecoded kind left more (ask_at bytes) (ask_at (bytes ++ more))
 unfolding ask_at
 ask_stays bytes more = within_stays (λ room rest. halted None (ask_in room rest)) unlimited bytes more (halted_reads None ask_reads)
 
-pub changes_stay : (measure : List ℕ → ℕ) (bytes more : List ℕ) → Stays kind left more (changes_at measure bytes) (changes_at measure (bytes ++ more))
+pub changes_stay : (measure : List ℕ → ℕ) (bytes more : List ℕ) → StaysDecoded kind left more (changes_at measure bytes) (changes_at measure (bytes ++ more))
 unfolding changes_at
 changes_stay measure bytes more = within_stays (λ room rest. changes_in measure room None rest) unlimited bytes more (changes_reads measure None)
 
-pub change_stays : (measure : List ℕ → ℕ) (bytes more : List ℕ) → Stays kind left more (one_change_at measure bytes) (one_change_at measure (bytes ++ more))
+pub change_stays : (measure : List ℕ → ℕ) (bytes more : List ℕ) → StaysDecoded kind left more (one_change_at measure bytes) (one_change_at measure (bytes ++ more))
 unfolding one_change_at
 change_stays measure bytes more = within_stays (λ room rest. halted None (change_at measure room None rest)) unlimited bytes more (halted_reads None (change_reads measure None))
 
@@ -120,16 +120,16 @@ none_at measure limits some =
     ∙ ap (λ (n : ℕ). failed {Z = SentAnswer × List ℕ} (record { kind = Truncated; at = n; change = None })) at)
 
 value_stays : (measure : List ℕ → ℕ) (limits : Limits) (bytes more : List ℕ) (x : SentAnswer) (rest : List ℕ) → answer_at measure limits bytes ≡ Ok (x, rest) → answer_at measure limits (bytes ++ more) ≡ Ok (x, rest ++ more)
-value_stays measure limits bytes more x rest is = subst (λ (r : Result (SentAnswer × List ℕ) Fault). Stays kind left more r (answer_at measure limits (bytes ++ more))) is (answer_stays measure limits bytes more)
+value_stays measure limits bytes more x rest is = subst (λ (r : Result (SentAnswer × List ℕ) Fault). StaysDecoded kind left more r (answer_at measure limits (bytes ++ more))) is (answer_stays measure limits bytes more)
 
-fault_stays : (measure : List ℕ → ℕ) (limits : Limits) (bytes more : List ℕ) (e : Fault) → answer_at measure limits bytes ≡ Err e → (IsCut e → ⊥) → answer_at measure limits (bytes ++ more) ≡ Err e
+fault_stays : (measure : List ℕ → ℕ) (limits : Limits) (bytes more : List ℕ) (e : Fault) → answer_at measure limits bytes ≡ Err e → (IsTruncated e → ⊥) → answer_at measure limits (bytes ++ more) ≡ Err e
 fault_stays measure limits bytes more e is other =
-    elim (subst (λ (r : Result (SentAnswer × List ℕ) Fault). Stays kind left more r (answer_at measure limits (bytes ++ more))) is (answer_stays measure limits bytes more)) [
+    elim (subst (λ (r : Result (SentAnswer × List ℕ) Fault). StaysDecoded kind left more r (answer_at measure limits (bytes ++ more))) is (answer_stays measure limits bytes more)) [
       | inl want ↦ absurd (other want)
       | inr same ↦ same
     ]
 
-pub answers_go : (measure : List ℕ → ℕ) (limits : Limits) → 0 < limits.bytes → Goes (answer_at measure limits) IsCut
+pub answers_go : (measure : List ℕ → ℕ) (limits : Limits) → 0 < limits.bytes → Goes (answer_at measure limits) IsTruncated
 answers_go measure limits some = record {
   first = first_fault;
   starts = none_at measure limits some;

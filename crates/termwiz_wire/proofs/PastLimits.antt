@@ -6,7 +6,7 @@ use Rattle.std.proofs.lemmas.Bool.{cases_lt}
 use Rattle.std.proofs.lemmas.List.{length-append, length-drop, take-append-drop, take-append-le}
 use Rattle.cbor.specs.declared.error.FaultKind.TheVariants.{Truncated, Limit}
 use Rattle.cbor.specs.Encoding.{unsigned, array}
-use Rattle.cbor.specs.Prefixes.{left, fault, Stays, Decides, FailsBy}
+use Rattle.cbor.specs.Prefixes.{left, fault, StaysDecoded, Decides, FailsBy}
 use Rattle.cbor.specs.Decoding.{◌>>=◌, ok}
 use Rattle.cbor.proofs.Widening.{Wider}
 use Rattle.termwiz_cell.specs.ChangeValue.{ChangeValue}
@@ -81,13 +81,13 @@ record IsPast {A : Type 0} (more : List ℕ) (later : Result (A × List ℕ) Hal
   no_value : (y : A × List ℕ) → later ≡ Ok (left y more) → ⊥
   limit : (e : Halt) → later ≡ Err e → halt e ≡ Limit
 
-same_fault : {A : Type 0} (more : List ℕ) (e : Halt) (wide later : Result (A × List ℕ) Halt) → (halt e ≡ Truncated → ⊥) → FailsBy halt (halt e) wide → Stays halt left more wide later → IsPast more later → halt e ≡ Limit
+same_fault : {A : Type 0} (more : List ℕ) (e : Halt) (wide later : Result (A × List ℕ) Halt) → (halt e ≡ Truncated → ⊥) → FailsBy halt (halt e) wide → StaysDecoded halt left more wide later → IsPast more later → halt e ≡ Limit
 same_fault more e (Ok y) later settled fails stay past = absurd fails
 same_fault more e (Err f) later settled fails (inl want) past = absurd (settled (sym fails ∙ want))
 same_fault more e (Err f) later settled fails (inr stay) past = sym fails ∙ past.limit f stay
 
-past_by : {A : Type 0} (more : List ℕ) (r wide later : Result (A × List ℕ) Halt) → Decides halt r → Wider halt r wide → Stays halt left more wide later → IsPast more later → FailsBy halt Limit r
-past_by {A = A} more (Ok y) wide later settled wider stay past = past.no_value y (subst (λ (w : Result (A × List ℕ) Halt). Stays halt left more w later) wider stay)
+past_by : {A : Type 0} (more : List ℕ) (r wide later : Result (A × List ℕ) Halt) → Decides halt r → Wider halt r wide → StaysDecoded halt left more wide later → IsPast more later → FailsBy halt Limit r
+past_by {A = A} more (Ok y) wide later settled wider stay past = past.no_value y (subst (λ (w : Result (A × List ℕ) Halt). StaysDecoded halt left more w later) wider stay)
 past_by more (Err e) wide later settled (inl limit) stay past = limit
 past_by more (Err e) wide later settled (inr fails) stay past = same_fault more e wide later settled fails stay past
 

@@ -21,7 +21,7 @@ use Rattle.termwiz_cell.specs.Link.{Link}
 use Rattle.termwiz_wire.specs.Work.{bears, cost, most_work, spent_on, work}
 use Rattle.termwiz_wire.proofs.Bounds.{spent_more}
 use Rattle.termwiz_wire.specs.Encoding.{change}
-use Rattle.termwiz_wire.specs.Resuming.{AreWithin, BeginsChange, ChangePart, EndsIn, DecodesOn, HasGoneOn, HasReached, HasReadOn, HasReadRuns, IsChangePart, IsCut, IsUnfinished, IsWholeText, LeadsOn, ReachesBy, ReachesItem, ReachesRun, ReadsRuns, Resumes, WithNext, WithWhole, change_part, change_rest_at, left_at, rest_at, resumed_by, resumed_in}
+use Rattle.termwiz_wire.specs.Resuming.{AreWithin, BeginsChange, ChangePart, EndsIn, DecodesOn, HasGoneOn, HasReached, HasReadOn, HasReadRuns, IsChangePart, StopsTruncated, IsUnfinished, IsWholeText, LeadsOn, ReachesBy, ReachesItem, ReachesRun, ReadsRuns, Resumes, WithNext, WithWhole, change_part, change_rest_at, left_at, rest_at, resumed_by, resumed_in}
 use Rattle.termwiz_wire.specs.Resuming as parts
 use Rattle.termwiz_wire.specs.Lent.{lent_answer}
 use Rattle.termwiz_wire.specs.Sent.{answer}
@@ -134,7 +134,7 @@ next_rest measure room head more bytes read lt is =
     ∙ then_then (halted (Some (length more)) (next_at measure room (Some head) (spent_on (Some head) more) bytes)) _ _
     ∙ ap (λ (r : Result (ChangeValue × List ℕ) Stop). halted (Some (length more)) r >>= λ first. rest_at measure room head (more ++ first.0 ∷ []) first.1) is
 
-begins_on : (measure : List ℕ → ℕ) (room : ℕ) (head : Head) (more : List ChangeValue) (all rest : List ℕ) → EndsIn all rest → IsBytes rest → length more < head.count → spent_on (Some head) more ≤ most_work head.width head.height → IsCut (next_at measure room (Some head) (spent_on (Some head) more) rest) → (next : Option ChangePart) (after : List ℕ) → BeginsChange measure room all rest next after → BeginsOn measure room head more all rest next after
+begins_on : (measure : List ℕ → ℕ) (room : ℕ) (head : Head) (more : List ChangeValue) (all rest : List ℕ) → EndsIn all rest → IsBytes rest → length more < head.count → spent_on (Some head) more ≤ most_work head.width head.height → StopsTruncated (next_at measure room (Some head) (spent_on (Some head) more) rest) → (next : Option ChangePart) (after : List ℕ) → BeginsChange measure room all rest next after → BeginsOn measure room head more all rest next after
 begins_on measure room head more all rest end fits lt few cut None after begins =
     subst (λ (t : List ℕ). BeginsOn measure room head more all rest None t) (sym begins.0.0) (record {
       end = end;
@@ -352,7 +352,7 @@ module _ (measure : List ℕ → ℕ) (limits : Limits) (bytes : List ℕ) where
       change_stop s stops = begun_here (Some change) is ∙ ap (behind_change room) stops
 
       -- it is cut
-      change_cut : (next : BegunChange) (rest : List ℕ) (n : ℕ) → EndsIn hand rest → IsChangePart n (change_part next) → ((near : List ℕ) (later : ℕ) → length near + later ≡ room → change_left later (hand ++ near) (start ++ near) ≡ change_rest_at later begun.head (spent_on (Some begun.head) made) (change_part next) (hand ++ near) (rest ++ near)) → IsCut (change_left room hand start) → ReachesBy measure room begun.head made (Some (change_part next)) rest → n ≡ length hand - length rest → Resumes measure limits bytes (Err (no_answers.Cut (Some (record { head = begun.head; changes = begun.changes; spent = begun.spent; next = Some next; taken = n }))))
+      change_cut : (next : BegunChange) (rest : List ℕ) (n : ℕ) → EndsIn hand rest → IsChangePart n (change_part next) → ((near : List ℕ) (later : ℕ) → length near + later ≡ room → change_left later (hand ++ near) (start ++ near) ≡ change_rest_at later begun.head (spent_on (Some begun.head) made) (change_part next) (hand ++ near) (rest ++ near)) → StopsTruncated (change_left room hand start) → ReachesBy measure room begun.head made (Some (change_part next)) rest → n ≡ length hand - length rest → Resumes measure limits bytes (Err (no_answers.Cut (Some (record { head = begun.head; changes = begun.changes; spent = begun.spent; next = Some next; taken = n }))))
       change_cut next rest n end fits same cut reached n_is =
           let later : Begun = record { head = begun.head; changes = begun.changes; spent = begun.spent; next = Some next; taken = n } in (
             is_unfinished (record { stop = cut.stop; change = Some (length made) }) (change_stop cut.stop cut.is) cut.cut,

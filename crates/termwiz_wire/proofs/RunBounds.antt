@@ -10,7 +10,7 @@ use Rattle.termwiz_cell.specs.Attributes.{default_attributes}
 use Rattle.termwiz_screen.specs.Print.{piece_of}
 use Rattle.termwiz_screen.specs.declared.print.Piece.{Piece}
 use Rattle.termwiz_screen.specs.declared.print.Piece.TheVariants.{CarriageReturn, LineFeed, CarriageReturnLineFeed, Cell}
-use Rattle.termwiz_wire.specs.Pieces.{columns_of, piece, pieces_of, alike, before, grouped, runs}
+use Rattle.termwiz_wire.specs.Pieces.{piece_columns, piece, pieces_of, alike, before, grouped, runs}
 use Rattle.termwiz_wire.specs.declared.pieces.Run.{Run}
 
 -- a run whose numbers have an encoding
@@ -59,7 +59,7 @@ small-grouped : (n : ℕ) (rs : List Run) → AllByRecursion (IsSmall n) rs → 
 small-grouped n [] all = tt
 small-grouped n (r ∷ rs) all = small-before n r (grouped rs) all.0 (small-grouped n rs all.1)
 
-few-columns : (p : Piece) → columns_of p ≤ 2
+few-columns : (p : Piece) → piece_columns p ≤ 2
 few-columns CarriageReturn = omega arith
 few-columns LineFeed = omega arith
 few-columns CarriageReturnLineFeed = omega arith

@@ -18,7 +18,7 @@ use Rattle.termwiz_cell.specs.CellValue.{columns}
 use Rattle.termwiz_screen.specs.Runs.{IsNarrowRun, IsWideRun}
 use Rattle.termwiz_screen.proofs.Runs.{PrintsCell-plain}
 use Rattle.termwiz_screen.proofs.LetterRuns.{PrintsCell-letter}
-use Rattle.termwiz_wire.specs.Pieces.{alike, before, columns_of, grouped, needs_pieces, piece, pieces_of, runs, stands_out}
+use Rattle.termwiz_wire.specs.Pieces.{alike, before, grouped, needs_pieces, piece, piece_columns, pieces_of, runs, stands_out}
 use Rattle.termwiz_wire.specs.Beginning.{IsBeginning}
 use Rattle.termwiz_wire.specs.declared.pieces.Run.{Run}
 
@@ -95,7 +95,7 @@ piece-plain : (f : List ℕ → ℕ) (c : ℕ) → is_plain c ≡ true → f (c 
 piece-plain f c h n =
     let prints = PrintsCell-plain f default_attributes c h n in
     let one : chars (c ∷ []) ≡ c ∷ [] = chars_plain c [] (utf8_one c h) h ∙ ap (λ cs. c ∷ cs) chars-nil in
-    ap₂ (λ a b. many a b 1) (ap length one) (ap columns_of prints.is_text ∙ ap columns prints.cell_is)
+    ap₂ (λ a b. many a b 1) (ap length one) (ap piece_columns prints.is_text ∙ ap columns prints.cell_is)
 
 pieces-plain : (f : List ℕ → ℕ) (cs : List ℕ) → list_all is_plain cs ≡ true → All (λ b. f (b ∷ []) ≤ 1) cs → AllByRecursion (λ c. piece f (c ∷ []) ≡ many 1 1 1) cs
 pieces-plain f [] h n = tt
@@ -117,7 +117,7 @@ piece-letter : (f : List ℕ → ℕ) (c : ℕ) → is_letter c ≡ true → 1 <
 piece-letter f c h n =
     let prints = PrintsCell-letter f default_attributes c h n in
     let one : chars (encode_utf8 c) ≡ c ∷ [] = chars_past_char (encode_utf8 c) [] c (letter_text c h) (sym (append-nil (encode_utf8 c))) ∙ ap (λ cs. c ∷ cs) chars-nil in
-    ap₂ (λ a b. many a b 1) (ap length one) (ap columns_of prints.is_text ∙ ap columns prints.cell_is)
+    ap₂ (λ a b. many a b 1) (ap length one) (ap piece_columns prints.is_text ∙ ap columns prints.cell_is)
 
 pieces-letters : (f : List ℕ → ℕ) (cs : List ℕ) → list_all is_letter cs ≡ true → All (λ c. 1 < f (encode_utf8 c)) cs → AllByRecursion (λ c. piece f (encode_utf8 c) ≡ many 1 2 1) cs
 pieces-letters f [] h n = tt

@@ -16,8 +16,8 @@ use Rattle.termwiz_cell.specs.declared.cell.style.SemanticType.{SemanticType}
 use Rattle.termwiz_cell.specs.declared.cell.style.SemanticType.TheVariants.{Output, Input, Prompt}
 use Rattle.termwiz_cell.specs.declared.cell.style.VerticalAlign.{VerticalAlign}
 use Rattle.termwiz_cell.specs.declared.cell.style.VerticalAlign.TheVariants.{BaseLine, SuperScript, SubScript}
-use Rattle.termwiz_wire.specs.Encoding.{fields, joined, style_number}
-use Rattle.termwiz_wire.specs.Decoding.{split, are_small, styled, styled_by, style_limit, style_at}
+use Rattle.termwiz_wire.specs.Encoding.{fields, fields_joined, style_number}
+use Rattle.termwiz_wire.specs.Decoding.{split, are_small, styled, styled_by, style_limit, style_item_at}
 
 -- each value has room in its bit field
 abbrev pub Fit : List ℕ → List ℕ → Type 0
@@ -30,23 +30,23 @@ abbrev pub product : List ℕ → ℕ
 product [] = 1
 product (k ∷ ks) = k * product ks
 
-pub split-joined : (ks ds : List ℕ) → Fit ks ds → split ks (joined ks ds) ≡ ds
+pub split-joined : (ks ds : List ℕ) → Fit ks ds → split ks (fields_joined ks ds) ≡ ds
 split-joined [] [] are = refl
 split-joined [] (d ∷ ds) are = absurd are
 split-joined (k ∷ ks) [] are = absurd are
 split-joined (k ∷ ks) (d ∷ ds) are =
-    let low : (d + k * joined ks ds) % k ≡ d = add-mul-mod_self_left d k (joined ks ds) ∙ mod-eq_of_lt are.0 in
+    let low : (d + k * fields_joined ks ds) % k ≡ d = add-mul-mod_self_left d k (fields_joined ks ds) ∙ mod-eq_of_lt are.0 in
     let positive : 0 < k = omega (arith, are.0) in
-    let high : (d + k * joined ks ds) / k ≡ joined ks ds = add-mul-div_left d (joined ks ds) positive ∙ ap (λ (n : ℕ). n + joined ks ds) (div-eq_of_lt are.0) ∙ (omega arith) in
-    ap (λ (n : ℕ). n ∷ split ks ((d + k * joined ks ds) / k)) low ∙ ap (λ (n : ℕ). d ∷ split ks n) high ∙ ap (λ (l : List ℕ). d ∷ l) (split-joined ks ds are.1)
+    let high : (d + k * fields_joined ks ds) / k ≡ fields_joined ks ds = add-mul-div_left d (fields_joined ks ds) positive ∙ ap (λ (n : ℕ). n + fields_joined ks ds) (div-eq_of_lt are.0) ∙ (omega arith) in
+    ap (λ (n : ℕ). n ∷ split ks ((d + k * fields_joined ks ds) / k)) low ∙ ap (λ (n : ℕ). d ∷ split ks n) high ∙ ap (λ (l : List ℕ). d ∷ l) (split-joined ks ds are.1)
 
-pub joined-below : (ks ds : List ℕ) → Fit ks ds → joined ks ds < product ks
+pub joined-below : (ks ds : List ℕ) → Fit ks ds → fields_joined ks ds < product ks
 joined-below [] [] are = omega arith
 joined-below [] (d ∷ ds) are = absurd are
 joined-below (k ∷ ks) [] are = absurd are
 joined-below (k ∷ ks) (d ∷ ds) are =
-    let below : joined ks ds + 1 ≤ product ks = omega (arith, joined-below ks ds are.1) in
-    let most : k * (joined ks ds + 1) ≤ k * product ks = mul-le-mul_left k below in
+    let below : fields_joined ks ds + 1 ≤ product ks = omega (arith, joined-below ks ds are.1) in
+    let most : k * (fields_joined ks ds + 1) ≤ k * product ks = mul-le-mul_left k below in
     omega (arith, most, are.0)
 
 pub intensity-below : (v : Intensity) → intensity_number v < 3
@@ -114,8 +114,8 @@ styled-again a = ap styled_by (split-joined fields (bits_of a) (bits-fit a)) ∙
 pub style-below : (a : Attributes) → style_number a < style_limit
 style-below a = joined-below fields (bits_of a) (bits-fit a)
 
-pub style_again : (room : ℕ) (a : Attributes) (rest : List ℕ) → style_at room (unsigned (style_number a) ++ rest) ≡ Ok (style_number a, rest)
-unfolding style_at
+pub style_again : (room : ℕ) (a : Attributes) (rest : List ℕ) → style_item_at room (unsigned (style_number a) ++ rest) ≡ Ok (style_number a, rest)
+unfolding style_item_at
 style_again room a rest =
     let small : are_small (split fields (style_number a)) ≡ true = ap are_small (split-joined fields (bits_of a) (bits-fit a)) ∙ small-fields a in
     rw (below_again room style_limit (style_number a) rest (omega (arith, style-below a)) (style-below a), small) refl

@@ -9,8 +9,8 @@ use Rattle.cbor.specs.Encoding.{unsigned}
 use Rattle.cbor.proofs.Steps.{Takes, bind_ok, guard_ended}
 use Rattle.termwiz_cell.specs.Attributes.{bits_of}
 use Rattle.termwiz_cell.specs.Style.{intensity_number, intensity_at, underline_number, underline_at, blink_number, blink_at, semantic_number, semantic_at, vertical_number, vertical_at, flag_number, flag_at}
-use Rattle.termwiz_wire.specs.Encoding.{fields, joined, style_number}
-use Rattle.termwiz_wire.specs.Decoding.{split, are_small, styled, style_limit, style_at}
+use Rattle.termwiz_wire.specs.Encoding.{fields, fields_joined, style_number}
+use Rattle.termwiz_wire.specs.Decoding.{split, are_small, styled, style_limit, style_item_at}
 use Rattle.termwiz_wire.specs.Cuts.{refused}
 use Rattle.termwiz_wire.proofs.Steps.{both, number_takes, stopped}
 use Rattle.termwiz_wire.proofs.Style.{product}
@@ -19,12 +19,12 @@ abbrev ArePositive : List ℕ → Type 0
 ArePositive [] = Unit {0}
 ArePositive (k ∷ ks) = (0 < k) × ArePositive ks
 
-joined-split : (ks : List ℕ) (n : ℕ) → ArePositive ks → n < product ks → joined ks (split ks n) ≡ n
+joined-split : (ks : List ℕ) (n : ℕ) → ArePositive ks → n < product ks → fields_joined ks (split ks n) ≡ n
 joined-split [] n are lt = omega (arith, lt)
 joined-split (k ∷ ks) n are lt =
     let parts : n % k + k * (n / k) ≡ n = mod-add-div n k in
     let smaller : k * (n / k) < k * product ks = omega (arith, parts, lt) in
-    let inner : joined ks (split ks (n / k)) ≡ n / k = joined-split ks (n / k) are.1 (lt_of_mul-lt-mul_left k smaller) in
+    let inner : fields_joined ks (split ks (n / k)) ≡ n / k = joined-split ks (n / k) are.1 (lt_of_mul-lt-mul_left k smaller) in
     ap (λ (m : ℕ). n % k + k * m) inner ∙ parts
 
 pub intensity-found : (n : ℕ) → n < 3 → intensity_number (intensity_at n) ≡ n
@@ -88,10 +88,10 @@ bits-found n e =
 style-found : (n : ℕ) → n < style_limit → are_small (split fields n) ≡ true → style_number (styled n) ≡ n
 style-found n lt e =
     let positive : ArePositive fields = (omega arith, (omega arith, (omega arith, (omega arith, (omega arith, (omega arith, (omega arith, (omega arith, (omega arith, (omega arith, (omega arith, tt))))))))))) in
-    ap (joined fields) (bits-found n e) ∙ joined-split fields n positive lt
+    ap (fields_joined fields) (bits-found n e) ∙ joined-split fields n positive lt
 
-pub style_takes : (room : ℕ) (bytes : List ℕ) (x : ℕ × List ℕ) → IsBytes bytes → style_at room bytes ≡ Ok x → Takes bytes (unsigned x.0) x.1 × (style_number (styled x.0) ≡ x.0)
-unfolding style_at
+pub style_takes : (room : ℕ) (bytes : List ℕ) (x : ℕ × List ℕ) → IsBytes bytes → style_item_at room bytes ≡ Ok x → Takes bytes (unsigned x.0) x.1 × (style_number (styled x.0) ≡ x.0)
+unfolding style_item_at
 style_takes room bytes x fits e =
     let a = bind_ok (below_at room style_limit bytes) (λ n. cond (are_small (split fields n.0)) (Ok n) (refused Range room bytes)) x e in
     let g = guard_ended (are_small (split fields a.0.0)) (stopped Range room bytes) a.0 x a.2 in

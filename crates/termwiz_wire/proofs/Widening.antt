@@ -12,11 +12,11 @@ use Rattle.termwiz_cell.specs.ChangeValue.{ChangeValue}
 use Rattle.termwiz_wire.specs.Encoding.{fields}
 use Rattle.termwiz_wire.specs.Pieces.{runs, stands_out, needs_pieces}
 use Rattle.termwiz_wire.specs.Cuts.{is_rest_at, is_run_at, are_at, same_at, is_count, are_characters, are_columns, kept_at, run_at, no_run, runs_at, threes_at, cut_at, others_at, pieces_at, pieces_by}
-use Rattle.termwiz_wire.specs.Decoding.{which_at, palette_at, rgb_at, rgb_palette_at, color_by, color_at, split, are_small, style_limit, style_at, ascends, key_at, param_at, params_at, link_at, optional_link_by, optional_link_at, attributes_at, attribute_change_by, attribute_change_at, position_by, position_at, place_at, is_on, region_size_at, scroll_at, printed_at, change_by, count_at, has_count, change_kind_at, change_at}
-use Rattle.termwiz_wire.specs.Answers.{version_at, body_at, opened_at, source_at, size_at, height_at, number_at, head_at, halted, next_at, each_at, answer_in}
+use Rattle.termwiz_wire.specs.Decoding.{which_at, palette_at, rgb_item_at, rgb_palette_at, color_by, color_item_at, split, are_small, style_limit, style_item_at, ascends, key_at, param_item_at, params_at, link_at, optional_link_by, optional_link_at, attributes_at, attribute_change_by, attribute_change_at, position_by, position_at, place_at, is_on, region_size_at, scroll_at, printed_at, change_by, count_at, has_count, change_kind_at, change_at}
+use Rattle.termwiz_wire.specs.Answers.{version_at, body_at, opened_at, source_at, size_at, height_at, based_number_at, head_at, halted, next_at, each_at, answer_in}
 use Rattle.termwiz_wire.specs.MoreBytes.{halt}
 use Rattle.termwiz_wire.specs.Screens.{is_past}
-use Rattle.termwiz_wire.specs.Work.{bears, rows_of, spent_on}
+use Rattle.termwiz_wire.specs.Work.{bears, head_rows, spent_on}
 use Rattle.termwiz_wire.specs.declared.decode.heads.Head.{Head}
 use Rattle.termwiz_wire.specs.declared.fault.Limits.{Limits}
 use Rattle.termwiz_wire.specs.declared.pieces.Run.{Run}
@@ -34,8 +34,8 @@ palette_widens : (bytes : List ℕ) → Widens fault (λ room. palette_at room b
 unfolding palette_at
 palette_widens bytes = steps _ (below_widens 256 bytes) (λ index. gives)
 
-rgb_widens : (bytes : List ℕ) → Widens fault (λ room. rgb_at room bytes)
-unfolding rgb_at
+rgb_widens : (bytes : List ℕ) → Widens fault (λ room. rgb_item_at room bytes)
+unfolding rgb_item_at
 rgb_widens bytes = steps _ (below_widens 256 bytes) (λ r. steps _ (below_widens 256 r.1) (λ g. steps _ (below_widens 256 g.1) (λ b. gives)))
 
 rgb_palette_widens : (bytes : List ℕ) → Widens fault (λ room. rgb_palette_at room bytes)
@@ -48,22 +48,22 @@ color_by_widens kinds.Unsigned bytes = palette_widens bytes
 color_by_widens kinds.Array bytes = steps _ (array_widens bytes) (λ n. either (eqb n.0 3) _ _ (rgb_widens n.1) (either (eqb n.0 4) _ _ (rgb_palette_widens n.1) (stops _ (λ a b. refl))))
 color_by_widens _ bytes = (stops _ (λ a b. refl))
 
-color_widens : (bytes : List ℕ) → Widens fault (λ room. color_at room bytes)
-unfolding color_at
+color_widens : (bytes : List ℕ) → Widens fault (λ room. color_item_at room bytes)
+unfolding color_item_at
 color_widens bytes = steps _ (kind_widens bytes) (λ kind. color_by_widens kind bytes)
 
 -- ---- attributes and links
 
-style_widens : (bytes : List ℕ) → Widens fault (λ room. style_at room bytes)
-unfolding style_at
+style_widens : (bytes : List ℕ) → Widens fault (λ room. style_item_at room bytes)
+unfolding style_item_at
 style_widens bytes = steps _ (below_widens style_limit bytes) (λ n. either (are_small (split fields n.0)) _ _ gives (stops _ (λ a b. refl)))
 
 key_widens : (made : List (List ℕ × List ℕ)) (bytes : List ℕ) → Widens fault (λ room. key_at room made bytes)
 unfolding key_at
 key_widens made bytes = steps _ (text_widens bytes) (λ key. either (ascends made key.0) _ _ gives (stops _ (λ a b. refl)))
 
-param_widens : (made : List (List ℕ × List ℕ)) (bytes : List ℕ) → Widens fault (λ room. param_at room made bytes)
-unfolding param_at
+param_widens : (made : List (List ℕ × List ℕ)) (bytes : List ℕ) → Widens fault (λ room. param_item_at room made bytes)
+unfolding param_item_at
 param_widens made bytes = steps _ (array_of_widens 2 bytes) (λ start. steps _ (key_widens made start) (λ key. steps _ (text_widens key.1) (λ value. gives)))
 
 params_widens : (made : List (List ℕ × List ℕ)) (n : ℕ) (bytes : List ℕ) → Widens fault (λ room. params_at room made n bytes)
@@ -239,8 +239,8 @@ height_widens : (limits : Limits) (width : ℕ) (bytes : List ℕ) → Widens fa
 unfolding height_at
 height_widens limits width bytes = steps _ (size_widens bytes) (λ n. either (is_past limits width n.0) _ _ (stops _ (λ a b. refl)) gives)
 
-number_widens : (base : ℕ) (bytes : List ℕ) → Widens fault (λ room. number_at room base bytes)
-unfolding number_at
+number_widens : (base : ℕ) (bytes : List ℕ) → Widens fault (λ room. based_number_at room base bytes)
+unfolding based_number_at
 number_widens base bytes = steps _ (unsigned_widens bytes) (λ n. either (ltb n.0 base) _ _ (stops _ (λ a b. refl)) gives)
 
 head_widens : (limits : Limits) (bytes : List ℕ) → Widens fault (λ room. head_at room limits bytes)
@@ -265,7 +265,7 @@ halted_widens {read = read} change widens = record {
 
 next_widens : (measure : List ℕ → ℕ) (head : Option Head) (spent : ℕ) (bytes : List ℕ) → Widens fault (λ room. next_at measure room head spent bytes)
 unfolding next_at
-next_widens measure head spent bytes = steps _ (change_widens measure (rows_of head) bytes) (λ c. either (bears head spent c.0) _ _ gives (stops _ (λ a b. refl)))
+next_widens measure head spent bytes = steps _ (change_widens measure (head_rows head) bytes) (λ c. either (bears head spent c.0) _ _ gives (stops _ (λ a b. refl)))
 
 each_widens : (measure : List ℕ → ℕ) (head : Option Head) (made : List ChangeValue) (n : ℕ) (bytes : List ℕ) → Widens halt (λ room. each_at measure room head made n bytes)
 unfolding each_at

@@ -8,7 +8,7 @@ use Rattle.termwiz_cell.specs.ChangeValue.{ChangeValue}
 use Rattle.termwiz_wire.specs.Cuts.{refused}
 use Rattle.termwiz_wire.specs.Decoding.{change_at}
 use Rattle.termwiz_wire.specs.Screens.{is_past}
-use Rattle.termwiz_wire.specs.Work.{bears, rows_of, spent_on}
+use Rattle.termwiz_wire.specs.Work.{bears, head_rows, spent_on}
 use Rattle.termwiz_wire.specs.declared.decode.halted.Halted.{Halted}
 use Rattle.termwiz_wire.specs.declared.fault.Fault.{Fault}
 use Rattle.termwiz_wire.specs.declared.fault.Limits.{Limits}
@@ -70,8 +70,8 @@ height_at room limits width bytes = do
   if is_past limits width n.0 then refused faults.Limit room bytes else Ok n
 
 -- a number from the base on
-unfoldable pub number_at : ℕ → ℕ → List ℕ → Result (ℕ × List ℕ) Stop
-number_at room base bytes = do
+unfoldable pub based_number_at : ℕ → ℕ → List ℕ → Result (ℕ × List ℕ) Stop
+based_number_at room base bytes = do
   n ← unsigned_at room bytes
   if nat_lt n.0 base then refused faults.Range room bytes else Ok n
 
@@ -99,7 +99,7 @@ head_at room limits bytes = do
   w ← size_at room s.1
   h ← height_at room limits w.0 w.1
   b ← unsigned_at room h.1
-  n ← number_at room b.0 b.1
+  n ← based_number_at room b.0 b.1
   c ← list_at room n.1
   ok (record { source = s.0; width = w.0; height = h.0; base = b.0; number = n.0; count = c.0 }) c.1
 
@@ -124,7 +124,7 @@ Halts left view (Err h) read =
 unfoldable pub next_at :
     (List ℕ → ℕ) → ℕ → Option Head → ℕ → List ℕ → Result (ChangeValue × List ℕ) Stop
 next_at measure room head spent bytes = do
-  c ← change_at measure room (rows_of head) bytes
+  c ← change_at measure room (head_rows head) bytes
   if bears head spent c.0 then Ok c else refused faults.Limit room bytes
 
 -- a number of changes after these, of an answer with this head, if any

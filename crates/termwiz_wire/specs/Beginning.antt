@@ -11,6 +11,6 @@ pub record IsBeginning (measure : List ℕ → ℕ) (text : List ℕ) (run : Run
   pub within : run.count + length rest ≤ length text
 
 -- a text of these runs needs its pieces, and has `count` runs
-pub record IsNeeded (count : ℕ) (rs : List Run) : Type 0 where
+pub record NeedsPieces (count : ℕ) (rs : List Run) : Type 0 where
   pub needed : needs_pieces rs ≡ true
   pub counted : count ≡ length rs

@@ -9,7 +9,7 @@ use Rattle.termwiz_cell.specs.ChangeValue as changed
 use Rattle.termwiz_cell.specs.Link.{Link, param_bytes}
 use Rattle.termwiz_cell.specs.LinkText.{AreInOrder}
 use Rattle.termwiz_wire.specs.Cuts.{refused}
-use Rattle.termwiz_wire.specs.Decoding.{ascends, change_kind_at, color_at, count_at, key_at, params_at, style_at, styled, which_at}
+use Rattle.termwiz_wire.specs.Decoding.{ascends, change_kind_at, color_item_at, count_at, key_at, params_at, style_item_at, styled, which_at}
 use Rattle.termwiz_wire.specs.declared.decode.cut_links.BegunLink.{BegunLink}
 
 -- a change of a link as far as it is decoded: the attributes before the link, if it is one of all
@@ -52,10 +52,10 @@ link_alone_at room bytes = do
 unfoldable pub before_link_at : ℕ → List ℕ → Result (Option Attributes × List ℕ) Stop
 before_link_at room bytes = do
   start ← array_of_at room 5 bytes
-  n ← style_at room start
-  f ← color_at room n.1
-  b ← color_at room f.1
-  u ← color_at room b.1
+  n ← style_item_at room start
+  f ← color_item_at room n.1
+  b ← color_item_at room f.1
+  u ← color_item_at room b.1
   ok
       (Some
       (record (styled n.0) { foreground = f.0; background = b.0; underline_color = u.0 }))

@@ -6,6 +6,7 @@ use Rattle.std.specs.Str.{chars, bytes_eq}
 use Rattle.cbor.specs.declared.error.FaultKind.{FaultKind}
 use Rattle.cbor.specs.declared.error.FaultKind.TheVariants as faults
 use Rattle.cbor.specs.Decoding.{◌>>=◌, Stop, ok, allowed, unsigned_at, array_at, list_at}
+use Rattle.termwiz_cell.specs.CellValue.{is_control}
 use Rattle.termwiz_wire.specs.Pieces.{alike, stands_out, needs_pieces}
 use Rattle.termwiz_wire.specs.declared.pieces.Run.{Run}
 
@@ -46,9 +47,6 @@ same_at room rs bytes = do
 
 abbrev pub is_break : List ℕ → Bool
 is_break p = bytes_eq p (13 ∷ []) || (bytes_eq p (10 ∷ []) || bytes_eq p (13 ∷ 10 ∷ []))
-
-abbrev pub is_control : ℕ → Bool
-is_control c = nat_lt c 32 || c == 127
 
 abbrev pub begins_line_feed : List ℕ → Bool
 begins_line_feed [] = false

@@ -38,8 +38,8 @@ palette_at room bytes = do
   index ← below_at room 256 bytes
   ok (colors.PaletteIndex index.0) index.1
 
-unfoldable pub rgb_at : ℕ → List ℕ → Result (ColorAttribute × List ℕ) Stop
-rgb_at room bytes = do
+unfoldable pub rgb_item_at : ℕ → List ℕ → Result (ColorAttribute × List ℕ) Stop
+rgb_item_at room bytes = do
   r ← below_at room 256 bytes
   g ← below_at room 256 r.1
   b ← below_at room 256 g.1
@@ -57,13 +57,13 @@ abbrev pub color_by : ℕ → Kind → List ℕ → Result (ColorAttribute × Li
 color_by room kinds.Null bytes = null_at room bytes >>= λ rest. ok colors.Default rest
 color_by room kinds.Unsigned bytes = palette_at room bytes
 color_by room kinds.Array bytes =
-    array_at room bytes >>= λ n. if n.0 == 3 then rgb_at room n.1
+    array_at room bytes >>= λ n. if n.0 == 3 then rgb_item_at room n.1
     else if n.0 == 4 then rgb_palette_at room n.1
     else refused faults.Type room bytes
 color_by room _ bytes = refused faults.Type room bytes
 
-unfoldable pub color_at : ℕ → List ℕ → Result (ColorAttribute × List ℕ) Stop
-color_at room bytes = do
+unfoldable pub color_item_at : ℕ → List ℕ → Result (ColorAttribute × List ℕ) Stop
+color_item_at room bytes = do
   kind ← kind_at room bytes
   color_by room kind bytes
 
@@ -105,8 +105,8 @@ styled n = styled_by (split fields n)
 abbrev pub style_limit : ℕ
 style_limit = 131072
 
-unfoldable pub style_at : ℕ → List ℕ → Result (ℕ × List ℕ) Stop
-style_at room bytes = do
+unfoldable pub style_item_at : ℕ → List ℕ → Result (ℕ × List ℕ) Stop
+style_item_at room bytes = do
   n ← below_at room style_limit bytes
   if are_small (split fields n.0) then Ok n else refused faults.Range room bytes
 
@@ -125,9 +125,9 @@ key_at room made bytes = do
   if ascends made key.0 then Ok key else refused faults.Range room bytes
 
 -- a param that follows these
-unfoldable pub param_at :
+unfoldable pub param_item_at :
     ℕ → List (List ℕ × List ℕ) → List ℕ → Result ((List ℕ × List ℕ) × List ℕ) Stop
-param_at room made bytes = do
+param_item_at room made bytes = do
   start ← array_of_at room 2 bytes
   key ← key_at room made start
   value ← text_at room key.1
@@ -138,7 +138,7 @@ unfoldable pub params_at :
     ℕ → List (List ℕ × List ℕ) → ℕ → List ℕ → Result (List (List ℕ × List ℕ) × List ℕ) Stop
 params_at room made zero bytes = Ok (made, bytes)
 params_at room made (suc n) bytes = do
-  first ← param_at room made bytes
+  first ← param_item_at room made bytes
   params_at room (made ++ first.0 ∷ []) n first.1
 
 unfoldable pub link_at : ℕ → List ℕ → Result (Link × List ℕ) Stop
@@ -165,10 +165,10 @@ optional_link_at room bytes = do
 unfoldable pub attributes_at : ℕ → List ℕ → Result (Attributes × List ℕ) Stop
 attributes_at room bytes = do
   start ← array_of_at room 5 bytes
-  n ← style_at room start
-  f ← color_at room n.1
-  b ← color_at room f.1
-  u ← color_at room b.1
+  n ← style_item_at room start
+  f ← color_item_at room n.1
+  b ← color_item_at room f.1
+  u ← color_item_at room b.1
   l ← optional_link_at room u.1
   ok
       (record (styled n.0) {
@@ -190,8 +190,8 @@ attribute_change_by room kind rest =
     else if kind == 4 then (boolean_at room rest >>= λ v. ok (attribute.Reverse v.0) v.1)
     else if kind == 5 then (boolean_at room rest >>= λ v. ok (attribute.StrikeThrough v.0) v.1)
     else if kind == 6 then (boolean_at room rest >>= λ v. ok (attribute.Invisible v.0) v.1)
-    else if kind == 7 then (color_at room rest >>= λ v. ok (attribute.Foreground v.0) v.1)
-    else if kind == 8 then (color_at room rest >>= λ v. ok (attribute.Background v.0) v.1)
+    else if kind == 7 then (color_item_at room rest >>= λ v. ok (attribute.Foreground v.0) v.1)
+    else if kind == 8 then (color_item_at room rest >>= λ v. ok (attribute.Background v.0) v.1)
     else if kind == 9 then (optional_link_at room rest >>= λ v. ok (attribute.Hyperlink v.0) v.1)
     else refused faults.Type room rest
 
@@ -258,11 +258,12 @@ change_by measure room rows count kind rest =
     if kind == 0 then (attribute_change_at room rest >>= λ v. ok (changed.Attribute v.0) v.1)
     else if kind == 1 then (attributes_at room rest >>= λ v. ok (changed.AllAttributes v.0) v.1)
     else if kind == 2 then printed_at measure room count rest
-    else if kind == 3 then (color_at room rest >>= λ v. ok (changed.ClearScreen v.0) v.1)
-    else if kind == 4 then (color_at room rest >>= λ v. ok (changed.ClearToEndOfLine v.0) v.1)
-    else if kind == 5 then (color_at room rest >>= λ v. ok (changed.ClearToEndOfScreen v.0) v.1)
+    else if kind == 3 then (color_item_at room rest >>= λ v. ok (changed.ClearScreen v.0) v.1)
+    else if kind == 4 then (color_item_at room rest >>= λ v. ok (changed.ClearToEndOfLine v.0) v.1)
+    else if kind == 5
+    then (color_item_at room rest >>= λ v. ok (changed.ClearToEndOfScreen v.0) v.1)
     else if kind == 6 then place_at room rest
-    else if kind == 7 then (color_at room rest >>= λ v. ok (changed.CursorColor v.0) v.1)
+    else if kind == 7 then (color_item_at room rest >>= λ v. ok (changed.CursorColor v.0) v.1)
     else if kind == 8
     then (below_at room 7 rest >>= λ v. ok (changed.CursorShape (shape_at v.0)) v.1)
     else if kind == 9

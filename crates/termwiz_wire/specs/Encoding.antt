@@ -33,14 +33,14 @@ abbrev pub fields : List ℕ
 fields = 4 ∷ 8 ∷ 4 ∷ 2 ∷ 2 ∷ 2 ∷ 2 ∷ 2 ∷ 2 ∷ 4 ∷ 4 ∷ []
 
 -- values in bit fields
-abbrev pub joined : List ℕ → List ℕ → ℕ
-joined [] values = 0
-joined (k ∷ ks) [] = 0
-joined (k ∷ ks) (v ∷ vs) = v + k * joined ks vs
+abbrev pub fields_joined : List ℕ → List ℕ → ℕ
+fields_joined [] values = 0
+fields_joined (k ∷ ks) [] = 0
+fields_joined (k ∷ ks) (v ∷ vs) = v + k * fields_joined ks vs
 
 -- the small attributes as one number
 abbrev pub style_number : Attributes → ℕ
-style_number a = joined fields (bits_of a)
+style_number a = fields_joined fields (bits_of a)
 
 -- a key and its value
 unfoldable pub param : List ℕ × List ℕ → List ℕ

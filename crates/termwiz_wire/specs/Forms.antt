@@ -9,17 +9,12 @@ use Rattle.termwiz_cell.specs.ChangeValue.{ChangeValue}
 use Rattle.termwiz_cell.specs.ChangeValue as changed
 use Rattle.termwiz_cell.specs.Link.{Link}
 use Rattle.termwiz_cell.specs.LinkText.{AreInOrder}
-use Rattle.termwiz_cell.specs.Rgb.{Rgb}
+use Rattle.termwiz_cell.specs.StyleWord.{IsRgb}
 use Rattle.termwiz_cell.specs.declared.color.ColorAttribute.{ColorAttribute}
 use Rattle.termwiz_cell.specs.declared.color.ColorAttribute.TheVariants as colors
 use Rattle.termwiz_cell.specs.declared.change.Position.{Position}
 use Rattle.termwiz_cell.specs.declared.change.Position.TheVariants.{Relative, Absolute, EndRelative}
 use Rattle.termwiz_wire.specs.Pieces.{runs, needs_pieces}
-
-pub record IsRgb (c : Rgb) : Type 0 where
-  pub red : c.red < 256
-  pub green : c.green < 256
-  pub blue : c.blue < 256
 
 abbrev pub IsColor : ColorAttribute → Type 0
 IsColor colors.Default = Unit {0}

@@ -18,8 +18,8 @@ abbrev pub kind : Fault → FaultKind
 kind f = f.kind
 
 -- more bytes may make an answer
-abbrev pub IsCut : Fault → Type 0
-IsCut f = f.kind ≡ Truncated
+abbrev pub IsTruncated : Fault → Type 0
+IsTruncated f = f.kind ≡ Truncated
 
 -- nothing is decoded from no bytes, and what is decoded, and a fault that is not cut, stays as it
 -- is with more bytes after them
@@ -38,7 +38,7 @@ pub record Goes {T E : Type 0} (read : List ℕ → Result (T × List ℕ) E) (I
 -- what is encoded is decoded again, whatever follows it, if the limits allow it, and else it is
 -- past them
 pub record Laws (measure : List ℕ → ℕ) (limits : Limits) : Type 0 where
-  pub goes : Goes (answer_at measure limits) IsCut
+  pub goes : Goes (answer_at measure limits) IsTruncated
   pub limited :
       (a : SentAnswer) (rest : List ℕ) → IsSent measure a → IsBeyond measure limits a →
       (f : Fault) × (answer_at measure limits (answer measure a ++ rest) ≡ Err f) × (f.kind ≡ Limit)

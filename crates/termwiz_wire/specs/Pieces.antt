@@ -12,11 +12,11 @@ use Rattle.termwiz_screen.specs.declared.print.Piece.TheVariants.{CarriageReturn
 use Rattle.termwiz_wire.specs.declared.pieces.Run.{Run}
 
 -- the columns of what is printed: a line break has none
-abbrev pub columns_of : Piece → ℕ
-columns_of CarriageReturn = 0
-columns_of LineFeed = 0
-columns_of CarriageReturnLineFeed = 0
-columns_of (Cell c) = columns c
+abbrev pub piece_columns : Piece → ℕ
+piece_columns CarriageReturn = 0
+piece_columns LineFeed = 0
+piece_columns CarriageReturnLineFeed = 0
+piece_columns (Cell c) = columns c
 
 -- a grapheme is a piece, which is a run of one
 abbrev pub piece : (List ℕ → ℕ) → List ℕ → Run
@@ -24,7 +24,7 @@ piece measure g =
     record {
       count = 1;
       characters = length (chars g);
-      columns = columns_of (piece_of measure default_attributes g);
+      columns = piece_columns (piece_of measure default_attributes g);
     }
 
 -- the pieces of a text

@@ -106,7 +106,7 @@ pub record LeadsOn (measure : List ℕ → ℕ) (limits : Limits) (begun : Begun
       resumed_in measure room begun (take limits.bytes bytes ++ near)
 
 -- bytes end within what is decoded
-pub record IsCut {Y : Type 0} (r : Result Y Stop) : Type 0 where
+pub record StopsTruncated {Y : Type 0} (r : Result Y Stop) : Type 0 where
   pub stop : Stop
   pub is : r ≡ Err stop
   pub cut : stop.fault ≡ Truncated
@@ -115,26 +115,26 @@ pub record IsCut {Y : Type 0} (r : Result Y Stop) : Type 0 where
 -- of pieces has
 pub record ReachesChange (measure : List ℕ → ℕ) (room : ℕ) (head : Head) (made : List ChangeValue)
     (bytes : List ℕ) : Type 0 where
-  pub cut : IsCut (next_at measure room (Some head) (spent_on (Some head) made) bytes)
+  pub cut : StopsTruncated (next_at measure room (Some head) (spent_on (Some head) made) bytes)
   pub no_link : (x : LinkPart × List ℕ) → link_begun_at room bytes ≢ Ok x
   pub no_text : (x : (List ℕ × ℕ) × List ℕ) → text_begun_at room bytes ≢ Ok x
 
 -- the next key or value of a link's params is cut
 pub record ReachesItem (room : ℕ) (part : LinkPart) (bytes : List ℕ) : Type 0 where
   pub some : has_item part ≡ true
-  pub cut : IsCut (link_item_at room part bytes)
+  pub cut : StopsTruncated (link_item_at room part bytes)
 
 -- the next of a text's own runs is cut, as far as it is the same
 pub record ReachesOwn (room : ℕ) (left : List Run) (bytes : List ℕ) : Type 0 where
   pub next : Run
   pub behind : List Run
   pub some : left ≡ next ∷ behind
-  pub cut : IsCut (is_run_at room next bytes)
+  pub cut : StopsTruncated (is_run_at room next bytes)
 
 -- the next of other runs is cut
 pub record ReachesOther (room : ℕ) (part : OtherPart) (bytes : List ℕ) : Type 0 where
   pub some : 0 < part.left
-  pub cut : IsCut (run_at room part.last part.characters bytes)
+  pub cut : StopsTruncated (run_at room part.last part.characters bytes)
 
 abbrev pub ReachesRun : ℕ → PiecesPart → List ℕ → Type 0
 ReachesRun room (texts.Own part) bytes = ReachesOwn room part.left bytes
@@ -158,7 +158,7 @@ HasReached measure limits begun bytes =
 -- before its changes
 abbrev pub HasBegun : (List ℕ → ℕ) → Limits → Option Begun → List ℕ → Type 0
 HasBegun measure limits None bytes =
-    IsCut (head_at (limits.bytes - length bytes) limits (take limits.bytes bytes))
+    StopsTruncated (head_at (limits.bytes - length bytes) limits (take limits.bytes bytes))
 HasBegun measure limits (Some begun) bytes = HasReached measure limits begun bytes
 
 -- more bytes may make an answer
@@ -201,7 +201,7 @@ DecodesOn measure room head made bytes (Ok true) more allowed rest =
     (left_at measure room head made bytes ≡ Ok (more, rest))
 DecodesOn measure room head made bytes (Ok false) more allowed rest =
     HasGoneOn measure room head made bytes more rest × (length more < head.count) ×
-    IsCut (next_at measure room (Some head) (spent_on (Some head) more) rest)
+    StopsTruncated (next_at measure room (Some head) (spent_on (Some head) more) rest)
 DecodesOn measure room head made bytes (Err h) more allowed rest =
     (h.error ≢ read_errors.Truncated) ×
     IfSome (fault_of h.error)

@@ -45,9 +45,9 @@ most_work w h = 64 + 4 * (w * h)
 
 -- ---- of an answer with a head, or of changes by themselves, which may take any
 
-abbrev pub rows_of : Option Head → Option ℕ
-rows_of None = None
-rows_of (Some head) = Some head.height
+abbrev pub head_rows : Option Head → Option ℕ
+head_rows None = None
+head_rows (Some head) = Some head.height
 
 -- the work of a change,
 abbrev pub cost : Option Head → ChangeValue → ℕ

@@ -1,6 +1,6 @@
 //! What bytes decide, when more may follow them.
 ghost use Rattle.std.specs.Prelude.{ℕ, ◌<◌, ◌++◌, List, Option, length, take};
-ghost use Rattle.cbor.specs.Prefixes.{FailsBy, Reads, Stays, fault, left, seen};
+ghost use Rattle.cbor.specs.Prefixes.{DecodesPrefixes, FailsBy, StaysDecoded, fault, left, seen};
 ghost use Rattle.cbor.specs.declared.error.FaultKind.TheVariants.{Truncated};
 ghost use Rattle.termwiz_wire.specs.Answers.{answer_at, answer_head_at, answer_in, ask_at, ask_in};
 ghost use Rattle.termwiz_wire.specs.Answers.{changes_at, changes_in, one_change_at};
@@ -16,29 +16,31 @@ ghost use Rattle.termwiz_wire.specs.declared.sent.SentAnswer.{SentAnswer};
 /// limit; and no bytes that reach the limit are `Truncated`.
 pub fn decided()
     ensures change { (measure : List ℕ → ℕ) (rows : Option ℕ) →
-        Reads fault left (λ room bytes. change_at measure room rows bytes) }
+        DecodesPrefixes fault left (λ room bytes. change_at measure room rows bytes) }
     ensures changes { (measure : List ℕ → ℕ) (head : Option Head) →
-        Reads halt left (λ room bytes. changes_in measure room head bytes) }
+        DecodesPrefixes halt left (λ room bytes. changes_in measure room head bytes) }
     ensures answer { (measure : List ℕ → ℕ) (limits : Limits) →
-        Reads halt left (λ room bytes. answer_in measure room limits bytes) }
-    ensures ask { Reads fault left ask_in }
+        DecodesPrefixes halt left (λ room bytes. answer_in measure room limits bytes) }
+    ensures ask { DecodesPrefixes fault left ask_in }
 {}
 
 /// What is decoded, and a fault but for `Truncated`, stays as it is at its place, whatever bytes
 /// follow.
 pub fn stays()
     ensures change { (measure : List ℕ → ℕ) (bytes more : List ℕ) →
-        Stays kind left more (one_change_at measure bytes)
+        StaysDecoded kind left more (one_change_at measure bytes)
         (one_change_at measure (bytes ++ more)) }
     ensures changes { (measure : List ℕ → ℕ) (bytes more : List ℕ) →
-        Stays kind left more (changes_at measure bytes) (changes_at measure (bytes ++ more)) }
+        StaysDecoded kind left more (changes_at measure bytes)
+        (changes_at measure (bytes ++ more)) }
     ensures answer { (measure : List ℕ → ℕ) (limits : Limits) (bytes more : List ℕ) →
-        Stays kind left more (answer_at measure limits bytes)
+        StaysDecoded kind left more (answer_at measure limits bytes)
         (answer_at measure limits (bytes ++ more)) }
     ensures head { (limits : Limits) (bytes more : List ℕ) →
-        Stays kind seen more (answer_head_at limits bytes) (answer_head_at limits (bytes ++ more)) }
+        StaysDecoded kind seen more (answer_head_at limits bytes)
+        (answer_head_at limits (bytes ++ more)) }
     ensures ask { (bytes more : List ℕ) →
-        Stays kind left more (ask_at bytes) (ask_at (bytes ++ more)) }
+        StaysDecoded kind left more (ask_at bytes) (ask_at (bytes ++ more)) }
 {}
 
 /// How answers of a stream are decoded within limits: what is decoded, and a fault but for

@@ -8,8 +8,8 @@ ghost use Rattle.termwiz_cell.specs.Attributes.{default_attributes};
 ghost use Rattle.termwiz_cell.specs.CellValue.{clean, columns};
 ghost use Rattle.termwiz_cell.specs.Measure.{measure};
 ghost use Rattle.termwiz_screen.specs.Print.{piece_of, printed_cell};
-ghost use Rattle.termwiz_wire.specs.Beginning.{IsBeginning, IsNeeded};
-ghost use Rattle.termwiz_wire.specs.Pieces.{alike, before, columns_of, needs_pieces, runs};
+ghost use Rattle.termwiz_wire.specs.Beginning.{IsBeginning, NeedsPieces};
+ghost use Rattle.termwiz_wire.specs.Pieces.{alike, before, needs_pieces, piece_columns, runs};
 ghost use Rattle.termwiz_wire.specs.Pieces.{stands_out};
 
 use std::alloc::{AllocError, Global};
@@ -69,7 +69,7 @@ fn cell_columns<W: Widths>(widths: &W, grapheme: &str) -> usize
 // The columns of a grapheme. A line break has none.
 fn columns_of<W: Widths>(widths: &W, grapheme: &str) -> usize
     requires { graphemes true grapheme.now ≡ grapheme.now ∷ [] }
-    ensures { result ≡ columns_of
+    ensures { result ≡ piece_columns
         (piece_of (measure W.width_of widths.now) default_attributes grapheme.now) }
 {
     match grapheme.as_bytes() {
@@ -248,7 +248,7 @@ pub(crate) fn needs_pieces<W: Widths>(widths: &W, text: &str) -> bool
 pub(crate) fn needed_runs<W: Widths>(widths: &W, text: &str) -> Option<usize>
     ensures { MatchOption result
         (needs_pieces (runs (measure W.width_of widths.now) text.now) ≡ false)
-        (λ count. IsNeeded count (runs (measure W.width_of widths.now) text.now)) }
+        (λ count. NeedsPieces count (runs (measure W.width_of widths.now) text.now)) }
 {
     if widths.has_narrow_ascii() && text.is_ascii() {
         return None;
@@ -260,7 +260,7 @@ pub(crate) fn needed_runs<W: Widths>(widths: &W, text: &str) -> Option<usize>
 fn counted_runs<W: Widths>(widths: &W, text: &str) -> Option<usize>
     ensures { MatchOption result
         (needs_pieces (runs (measure W.width_of widths.now) text.now) ≡ false)
-        (λ count. IsNeeded count (runs (measure W.width_of widths.now) text.now)) }
+        (λ count. NeedsPieces count (runs (measure W.width_of widths.now) text.now)) }
 {
     let mut count = 0;
     let mut needed = false;

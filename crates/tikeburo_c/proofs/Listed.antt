@@ -6,16 +6,16 @@ use Rattle.cbor.specs.Decoding.{◌>>=◌}
 use Rattle.core.proofs.str.Lossy.{IsUtf8-from_is_utf8, is_utf8-from_IsUtf8}
 use Rattle.core.specs.Str.{is_utf8}
 use Rattle.termwiz_cell.specs.ChangeValue.{ChangeValue}
-use Rattle.tikeburo_c.specs.Lists.{first_in, listed_in, text_in}
+use Rattle.tikeburo_c.specs.Lists.{first_change_in, listed_in, readable_text}
 use Rattle.tikeburo_c.specs.declared.failure.Failure.{Failure}
 use Rattle.tikeburo_c.specs.declared.failure.Failure.TheVariants.{Range, Unreadable}
 use Rattle.tikeburo_c.specs.declared.lists.ChangeFields.{ChangeFields}
 
 -- bytes that are a text, and bytes that are none
-pub text_read : (text bytes : List ℕ) → text ≡ bytes → IsUtf8 bytes → text_in bytes ≡ Ok text
+pub text_read : (text bytes : List ℕ) → text ≡ bytes → IsUtf8 bytes → readable_text bytes ≡ Ok text
 text_read text bytes e u = rw (is_utf8-from_IsUtf8 bytes u) (ap (λ (t : List ℕ). Ok t) (sym e))
 
-pub no_text : (bytes : List ℕ) → ¬ (IsUtf8 bytes) → text_in bytes ≡ Err Unreadable
+pub no_text : (bytes : List ℕ) → ¬ (IsUtf8 bytes) → readable_text bytes ≡ Err Unreadable
 no_text bytes bad =
     elim (is_utf8 bytes) as (λ b. is_utf8 bytes ≡ b → cond b (Ok bytes) (Err Unreadable) ≡ Err Unreadable) [
       | true ↦ λ e. absurd (bad (IsUtf8-from_is_utf8 bytes e))
@@ -38,7 +38,7 @@ one_more : (done : List ChangeValue) (c : ChangeValue) (r : Listed) → go_on do
 one_more done c (Ok cs) = ap (λ (xs : List ChangeValue). Ok xs) (sym (append_assoc done (c ∷ []) cs))
 one_more done c (Err e) = refl
 
-listed_more : (f : ChangeFields) (fs : List ChangeFields) (texts : List ℕ) → listed_in (f ∷ fs) texts ≡ (first_in f texts >>= λ x. listed_in fs x.1 >>= λ cs. Ok (x.0 ∷ cs))
+listed_more : (f : ChangeFields) (fs : List ChangeFields) (texts : List ℕ) → listed_in (f ∷ fs) texts ≡ (first_change_in f texts >>= λ x. listed_in fs x.1 >>= λ cs. Ok (x.0 ∷ cs))
 unfolding listed_in
 listed_more f fs texts = refl
 
@@ -50,16 +50,16 @@ listed_texts : (b : ℕ) (bs : List ℕ) → listed_in [] (b ∷ bs) ≡ Err Ran
 unfolding listed_in
 listed_texts b bs = refl
 
-at : (fs : List ChangeFields) (i : ℕ) (d : ChangeFields) (texts : List ℕ) → i < length fs → listed_in (drop i fs) texts ≡ (first_in (get_or fs i d) texts >>= λ x. listed_in (drop (i + 1) fs) x.1 >>= λ cs. Ok (x.0 ∷ cs))
+at : (fs : List ChangeFields) (i : ℕ) (d : ChangeFields) (texts : List ℕ) → i < length fs → listed_in (drop i fs) texts ≡ (first_change_in (get_or fs i d) texts >>= λ x. listed_in (drop (i + 1) fs) x.1 >>= λ cs. Ok (x.0 ∷ cs))
 at fs i d texts lt = ap (λ (xs : List ChangeFields). listed_in xs texts) (drop_more fs i d lt) ∙ listed_more (get_or fs i d) (drop (i + 1) fs) texts
 
 -- the next change is read
-pub goes_on : (fs : List ChangeFields) (i : ℕ) (d : ChangeFields) (done : List ChangeValue) (texts : List ℕ) (c : ChangeValue) (others : List ℕ) (total : Listed) → i < length fs → first_in (get_or fs i d) texts ≡ Ok (c, others) → go_on done (listed_in (drop i fs) texts) ≡ total → go_on (done ++ c ∷ []) (listed_in (drop (i + 1) fs) others) ≡ total
+pub goes_on : (fs : List ChangeFields) (i : ℕ) (d : ChangeFields) (done : List ChangeValue) (texts : List ℕ) (c : ChangeValue) (others : List ℕ) (total : Listed) → i < length fs → first_change_in (get_or fs i d) texts ≡ Ok (c, others) → go_on done (listed_in (drop i fs) texts) ≡ total → go_on (done ++ c ∷ []) (listed_in (drop (i + 1) fs) others) ≡ total
 goes_on fs i d done texts c others total lt read so_far =
     sym (ap (go_on done) (at fs i d texts lt ∙ ap (λ (r : Result (ChangeValue × List ℕ) Failure). r >>= λ x. listed_in (drop (i + 1) fs) x.1 >>= λ cs. Ok (x.0 ∷ cs)) read) ∙ one_more done c (listed_in (drop (i + 1) fs) others)) ∙ so_far
 
 -- or it has a fault
-pub ends : (fs : List ChangeFields) (i : ℕ) (d : ChangeFields) (done : List ChangeValue) (texts : List ℕ) (e : Failure) (total : Listed) → i < length fs → first_in (get_or fs i d) texts ≡ Err e → go_on done (listed_in (drop i fs) texts) ≡ total → total ≡ Err e
+pub ends : (fs : List ChangeFields) (i : ℕ) (d : ChangeFields) (done : List ChangeValue) (texts : List ℕ) (e : Failure) (total : Listed) → i < length fs → first_change_in (get_or fs i d) texts ≡ Err e → go_on done (listed_in (drop i fs) texts) ≡ total → total ≡ Err e
 ends fs i d done texts e total lt read so_far =
     sym so_far ∙ ap (go_on done) (at fs i d texts lt ∙ ap (λ (r : Result (ChangeValue × List ℕ) Failure). r >>= λ x. listed_in (drop (i + 1) fs) x.1 >>= λ cs. Ok (x.0 ∷ cs)) read)
 

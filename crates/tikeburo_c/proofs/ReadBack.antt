@@ -40,8 +40,8 @@ use Rattle.termwiz_cell.specs.declared.color.ColorAttribute.TheVariants as color
 use Rattle.tikeburo_c.specs.Cells.{uri_of}
 use Rattle.tikeburo_c.specs.Fields.{attribute_fields, attributes_in, color_fields, color_in, styles_in}
 use Rattle.tikeburo_c.specs.Listing.{IsListOf, IsListable, IsPlace, bare, bare_pen, counted_from, pen_struct, place, struct_of, text_of}
-use Rattle.tikeburo_c.specs.Lists.{change_in, first_in, in_range, kind_in, link_to, listed_in, moved, pen_in, position_in, text_in, text_len, with_link}
-use Rattle.tikeburo_c.specs.Numbers.{align_in, blink_in, intensity_in, line_in, semantic_in, shape_in, underline_in}
+use Rattle.tikeburo_c.specs.Lists.{change_in, change_kind_in, cursor_move, first_change_in, in_range, link_to, listed_in, pen_in, position_in, readable_text, text_len, with_link}
+use Rattle.tikeburo_c.specs.Numbers.{align_in, blink_in, cursor_shape_in, intensity_in, line_in, semantic_in, underline_in}
 use Rattle.tikeburo_c.specs.declared.failure.Failure.{Failure}
 use Rattle.tikeburo_c.specs.declared.failure.Failure.TheVariants.{Range, Unreadable}
 use Rattle.tikeburo_c.specs.declared.lists.ChangeFields.{ChangeFields}
@@ -78,7 +78,7 @@ align_back vertical.BaseLine = refl
 align_back vertical.SuperScript = refl
 align_back vertical.SubScript = refl
 
-shape_back : (s : CursorShape) → shape_in (shape_number s) ≡ Some s
+shape_back : (s : CursorShape) → cursor_shape_in (shape_number s) ≡ Some s
 shape_back shape.Default = refl
 shape_back shape.BlinkingBlock = refl
 shape_back shape.SteadyBlock = refl
@@ -110,7 +110,7 @@ styles_back a = rw (intensity_back a.intensity, underline_back a.underline, blin
 attributes_back : (a : Attributes) → attributes_in (attribute_fields a) ≡ Some (record a { hyperlink = None })
 attributes_back a = rw (styles_back a, color_back a.foreground, color_back a.background, color_back a.underline_color) refl
 
-text_back : (t : List ℕ) → IsUtf8 t → text_in t ≡ Ok t
+text_back : (t : List ℕ) → IsUtf8 t → readable_text t ≡ Ok t
 text_back t u = ap (λ (b : Bool). cond b (Ok t) (Err Unreadable)) (is_utf8-from_IsUtf8 t u)
 
 -- ---- a change is read back
@@ -143,7 +143,7 @@ whole k f text rest c means =
     ∙ ap (λ (r : Result ChangeValue Failure). with_rest r (drop (length text) (text ++ rest))) means
     ∙ ap (λ (bytes : List ℕ). with_rest (Ok c) bytes) (drop_at text rest (length text) refl)
 
-first_of : (f : ChangeFields) (k : Kind) (text rest : List ℕ) (c : ChangeValue) → kind_in f.kind ≡ Some k → text_len k f ≡ length text → change_in k f text ≡ Ok c → first_in f (text ++ rest) ≡ Ok (c, rest)
+first_of : (f : ChangeFields) (k : Kind) (text rest : List ℕ) (c : ChangeValue) → change_kind_in f.kind ≡ Some k → text_len k f ≡ length text → change_in k f text ≡ Ok c → first_change_in f (text ++ rest) ≡ Ok (c, rest)
 first_of f k text rest c is own means =
     ap (λ (o : Option Kind). by_kind o f (text ++ rest)) is
     ∙ ap (λ (n : ℕ). after_bytes k f (text ++ rest) n) own
@@ -152,7 +152,7 @@ first_of f k text rest c is own means =
 abbrev made_of : (List ℕ → ChangeValue) → Result (List ℕ) Failure → Result ChangeValue Failure
 made_of make r = r >>= λ t. Ok (make t)
 
-of_text : (make : List ℕ → ChangeValue) (t : List ℕ) → IsUtf8 t → made_of make (text_in t) ≡ Ok (make t)
+of_text : (make : List ℕ → ChangeValue) (t : List ℕ) → IsUtf8 t → made_of make (readable_text t) ≡ Ok (make t)
 of_text make t u = ap (made_of make) (text_back t u)
 
 abbrev made_in : {A : Type 0} → (A → ChangeValue) → Option A → Result ChangeValue Failure
@@ -171,7 +171,7 @@ pen_with : (a : Attributes) (uri : List ℕ) → IsUtf8 uri → pen_in (pen_stru
 pen_with a [] u = ap in_range (attributes_back a)
 pen_with a (b ∷ bs) u =
     rw (eqb-suc-zero (length bs))
-    (ap (λ (o : Option Attributes). linked_pen o (text_in (b ∷ bs))) (attributes_back a)
+    (ap (λ (o : Option Attributes). linked_pen o (readable_text (b ∷ bs))) (attributes_back a)
     ∙ ap (linked_pen (Some (record a { hyperlink = None }))) (text_back (b ∷ bs) u))
 
 pen_back : (a : Attributes) → IsUtf8 (uri_of a.hyperlink) → pen_in (pen_struct a) (uri_of a.hyperlink) ≡ Ok (bare_pen a)
@@ -200,14 +200,14 @@ div_back (position.EndRelative m) (position.Relative n) = refl
 div_back (position.EndRelative m) (position.EndRelative n) = refl
 
 abbrev moved_by : ℕ → ℕ → Position → Position → Result ChangeValue Failure
-moved_by a b x y = in_range (moved (position_in a (place x)) (position_in b (place y)))
+moved_by a b x y = in_range (cursor_move (position_in a (place x)) (position_in b (place y)))
 
 move_back : (x y : Position) → IsPlace x → IsPlace y → moved_by ((counted_from x + 4 * counted_from y) % 4) ((counted_from x + 4 * counted_from y) / 4) x y ≡ Ok (change.CursorPosition x y)
 move_back x y fx fy =
     ap (λ (a : ℕ). moved_by a ((counted_from x + 4 * counted_from y) / 4) x y) (rem_back x y)
     ∙ ap (λ (b : ℕ). moved_by (counted_from x) b x y) (div_back x y)
-    ∙ ap (λ (o : Option Position). in_range (moved o (position_in (counted_from y) (place y)))) (position_back x fx)
-    ∙ ap (λ (o : Option Position). in_range (moved (Some x) o)) (position_back y fy)
+    ∙ ap (λ (o : Option Position). in_range (cursor_move o (position_in (counted_from y) (place y)))) (position_back x fx)
+    ∙ ap (λ (o : Option Position). in_range (cursor_move (Some x) o)) (position_back y fy)
 
 abbrev attribute_made : {A : Type 0} → (A → AttributeChangeValue) → Option A → Result ChangeValue Failure
 attribute_made make o = in_range (option_map change.Attribute (option_map make o))
@@ -215,7 +215,7 @@ attribute_made make o = in_range (option_map change.Attribute (option_map make o
 abbrev link_made : Result (List ℕ) Failure → Result ChangeValue Failure
 link_made text = (text >>= λ uri. Ok (link_to uri)) >>= λ link. Ok (change.Attribute (attribute.Hyperlink (Some link)))
 
-attribute_first : (c : AttributeChangeValue) → IsListable (change.Attribute c) → (rest : List ℕ) → first_in (struct_of (change.Attribute c)) (text_of (change.Attribute c) ++ rest) ≡ Ok (bare (change.Attribute c), rest)
+attribute_first : (c : AttributeChangeValue) → IsListable (change.Attribute c) → (rest : List ℕ) → first_change_in (struct_of (change.Attribute c)) (text_of (change.Attribute c) ++ rest) ≡ Ok (bare (change.Attribute c), rest)
 attribute_first (attribute.Intensity v) s rest = first_of (struct_of (change.Attribute (attribute.Intensity v))) kind.Intensity [] rest (change.Attribute (attribute.Intensity v)) refl refl (ap (attribute_made attribute.Intensity) (intensity_back v))
 attribute_first (attribute.Underline v) s rest = first_of (struct_of (change.Attribute (attribute.Underline v))) kind.Underline [] rest (change.Attribute (attribute.Underline v)) refl refl (ap (attribute_made attribute.Underline) (underline_back v))
 attribute_first (attribute.Blink v) s rest = first_of (struct_of (change.Attribute (attribute.Blink v))) kind.Blink [] rest (change.Attribute (attribute.Blink v)) refl refl (ap (attribute_made attribute.Blink) (blink_back v))
@@ -232,7 +232,7 @@ visible_back : (v : CursorVisibility) → change_in kind.CursorVisibility (struc
 visible_back visibility.Hidden = refl
 visible_back visibility.Visible = refl
 
-pub first_back : (c : ChangeValue) → IsListable c → (rest : List ℕ) → first_in (struct_of c) (text_of c ++ rest) ≡ Ok (bare c, rest)
+pub first_back : (c : ChangeValue) → IsListable c → (rest : List ℕ) → first_change_in (struct_of c) (text_of c ++ rest) ≡ Ok (bare c, rest)
 first_back (change.Text t) s rest = first_of (struct_of (change.Text t)) kind.Text t rest (change.Text t) refl refl (of_text change.Text t s.utf8)
 first_back (change.Title t) s rest = first_of (struct_of (change.Title t)) kind.Title t rest (change.Title t) refl refl (of_text change.Title t s.utf8)
 first_back (change.Attribute c) s rest = attribute_first c s rest
@@ -264,7 +264,7 @@ then_listed r fs = r >>= λ x. listed_in fs x.1 >>= λ cs. Ok (x.0 ∷ cs)
 abbrev and_listed : ChangeValue → Listed → Listed
 and_listed c r = r >>= λ cs. Ok (c ∷ cs)
 
-listed_cons : (f : ChangeFields) (fs : List ChangeFields) (texts : List ℕ) → listed_in (f ∷ fs) texts ≡ then_listed (first_in f texts) fs
+listed_cons : (f : ChangeFields) (fs : List ChangeFields) (texts : List ℕ) → listed_in (f ∷ fs) texts ≡ then_listed (first_change_in f texts) fs
 unfolding listed_in
 listed_cons f fs texts = refl
 

@@ -8,12 +8,12 @@ use Rattle.termwiz_storage.specs.CellTexts.{texts_of}
 use Rattle.termwiz_storage.specs.PlainCells.{IsPlainFirst}
 use Rattle.termwiz_storage.specs.VisibleCell.{VisibleCell, at_column}
 use Rattle.tikeburo_c.specs.Fields.{attribute_fields}
-use Rattle.tikeburo_c.specs.Rows.{begins, begun, cells_from, overwritten, row_cell, runs_of}
+use Rattle.tikeburo_c.specs.Rows.{begins, begun, cell_fields_from, overwritten, row_cell, runs_of}
 use Rattle.tikeburo_c.specs.declared.fields.AttributeFields.{AttributeFields}
 use Rattle.tikeburo_c.specs.declared.row_parts.RowCellFields.{RowCellFields}
 use Rattle.tikeburo_c.proofs.Filled.{Fills, fills_more, fills_room, set_overwrites}
 
-pub cells_count : (begin runs : ℕ) (before : Option Attributes) (ps : List VisibleCell) → length (cells_from begin runs before ps) ≡ length ps
+pub cells_count : (begin runs : ℕ) (before : Option Attributes) (ps : List VisibleCell) → length (cell_fields_from begin runs before ps) ≡ length ps
 cells_count begin runs before [] = refl
 cells_count begin runs before (p ∷ ps) =
     ap suc (cells_count (begin + length p.cell.text) (runs + length (begun before p.cell.attrs)) (Some p.cell.attrs) ps)
@@ -42,24 +42,24 @@ module _ (left rest : List VisibleCell) (p : VisibleCell) (first : left ≡ p �
         (subst (Fills (runs + length (begun before a)) (runs_of (Some a) rest) all old) (sym is)
         (fills_more runs (begun before a) (runs_of (Some a) rest) all old now next_run room))
 
-  module _ (written end runs : ℕ) (before : Option Attributes) (all old now : List RowCellFields) (room : length all ≤ length old) (f : Fills written (cells_from end runs before left) all old now) (n : ℕ) (count : n ≡ runs + length (begun before a)) where
-    next_cell : Fills written (row_cell end (n - 1) p.cell ∷ [] ++ cells_from (end + length p.cell.text) n (Some a) rest) all old now
+  module _ (written end runs : ℕ) (before : Option Attributes) (all old now : List RowCellFields) (room : length all ≤ length old) (f : Fills written (cell_fields_from end runs before left) all old now) (n : ℕ) (count : n ≡ runs + length (begun before a)) where
+    next_cell : Fills written (row_cell end (n - 1) p.cell ∷ [] ++ cell_fields_from (end + length p.cell.text) n (Some a) rest) all old now
     next_cell =
         subst (λ xs. Fills written xs all old now)
-        (ap (cells_from end runs before) first
-        ∙ ap (λ b. row_cell end (runs + length (begun before b) - 1) p.cell ∷ cells_from (end + length p.cell.text) (runs + length (begun before b)) (Some b) rest) (sym own)
-        ∙ ap (λ k. row_cell end (k - 1) p.cell ∷ cells_from (end + length p.cell.text) k (Some a) rest) (sym count)) f
+        (ap (cell_fields_from end runs before) first
+        ∙ ap (λ b. row_cell end (runs + length (begun before b) - 1) p.cell ∷ cell_fields_from (end + length p.cell.text) (runs + length (begun before b)) (Some b) rest) (sym own)
+        ∙ ap (λ k. row_cell end (k - 1) p.cell ∷ cell_fields_from (end + length p.cell.text) k (Some a) rest) (sym count)) f
 
     pub cell_fits : written + 1 ≤ length now
-    cell_fits = fills_room written (row_cell end (n - 1) p.cell ∷ []) (cells_from (end + length p.cell.text) n (Some a) rest) all old now next_cell room
+    cell_fits = fills_room written (row_cell end (n - 1) p.cell ∷ []) (cell_fields_from (end + length p.cell.text) n (Some a) rest) all old now next_cell room
 
-    pub cells_go_on : (bytes : List ℕ) (x : RowCellFields) (k : ℕ) (new : List RowCellFields) → bytes ≡ p.cell.text → x ≡ row_cell end (n - 1) p.cell → k ≡ written + 1 → new ≡ set now written x → Fills k (cells_from (end + length bytes) n (Some a) rest) all old new
+    pub cells_go_on : (bytes : List ℕ) (x : RowCellFields) (k : ℕ) (new : List RowCellFields) → bytes ≡ p.cell.text → x ≡ row_cell end (n - 1) p.cell → k ≡ written + 1 → new ≡ set now written x → Fills k (cell_fields_from (end + length bytes) n (Some a) rest) all old new
     cells_go_on bytes x k new text is count_is new_is =
         let y : RowCellFields = row_cell end (n - 1) p.cell in
-        let after : List RowCellFields = cells_from (end + length p.cell.text) n (Some a) rest in
+        let after : List RowCellFields = cell_fields_from (end + length p.cell.text) n (Some a) rest in
         let here : suc written ≤ length now = subst (λ m. m ≤ length now) (add-one written) cell_fits in
         let whole : new ≡ overwritten written (y ∷ []) now = new_is ∙ ap (set now written) is ∙ set_overwrites written y now here in
-        subst (λ t. Fills k (cells_from (end + length t) n (Some a) rest) all old new) (sym text)
+        subst (λ t. Fills k (cell_fields_from (end + length t) n (Some a) rest) all old new) (sym text)
         (subst (λ m. Fills m after all old new) (sym count_is)
         (subst (Fills (written + 1) after all old) (sym whole) (fills_more written (y ∷ []) after all old now next_cell room)))
 
@@ -95,11 +95,11 @@ module _ (a : Attributes) (left rest : List VisibleCell) (byte : ℕ) (plain : I
   pub plain_run : (runs : ℕ) (all old now : List AttributeFields) → Fills runs (runs_of (Some a) left) all old now → Fills runs (runs_of (Some a) rest) all old now
   plain_run runs all old now f = subst (λ xs. Fills runs xs all old now) (ap (runs_of (Some a)) plain.first ∙ ap (λ xs. xs ++ runs_of (Some a) rest) (begins_none a)) f
 
-  module _ (written count end runs : ℕ) (all old now : List RowCellFields) (room : length all ≤ length old) (f : Fills (written + count) (cells_from (end + count) runs (Some a) left) all old now) where
-    pub plain_cell_goes_on : (x : RowCellFields) (new : List RowCellFields) → x ≡ row_cell (end + count) (runs - 1) (plain_cell byte a) → new ≡ set now (written + count) x → Fills (written + (count + 1)) (cells_from (end + (count + 1)) runs (Some a) rest) all old new
+  module _ (written count end runs : ℕ) (all old now : List RowCellFields) (room : length all ≤ length old) (f : Fills (written + count) (cell_fields_from (end + count) runs (Some a) left) all old now) where
+    pub plain_cell_goes_on : (x : RowCellFields) (new : List RowCellFields) → x ≡ row_cell (end + count) (runs - 1) (plain_cell byte a) → new ≡ set now (written + count) x → Fills (written + (count + 1)) (cell_fields_from (end + (count + 1)) runs (Some a) rest) all old new
     plain_cell_goes_on x new is new_is =
         let next : end + count + 1 ≡ end + (count + 1) = omega arith in
-        subst (λ k. Fills (written + (count + 1)) (cells_from k runs (Some a) rest) all old new) next
+        subst (λ k. Fills (written + (count + 1)) (cell_fields_from k runs (Some a) rest) all old new) next
         (cells_go_on left rest cell plain.first a refl (written + count) (end + count) runs (Some a) all old now room f runs (none_begins a runs) (byte ∷ []) x (written + (count + 1)) new refl is (omega arith) new_is)
 
   module _ (end count : ℕ) (all old now : List ℕ) (room : length all ≤ length old) (f : Fills (end + count) (texts_of left) all old now) where

@@ -5,7 +5,7 @@ use Rattle.std.specs.declared.vec.Vec.{Vec}
 use Rattle.termwiz_cell.specs.ChangeValue.{ChangeValue, change_value}
 use Rattle.termwiz_cell.specs.declared.change.Change.{Change}
 use Rattle.termwiz_share.specs.Serving.{PreservesServing}
-use Rattle.termwiz_share.specs.Source.{SourceValue, trimmed}
+use Rattle.termwiz_share.specs.Source.{SourceValue, trimmed_surface}
 use Rattle.termwiz_surface.specs.Adding.{Adds}
 use Rattle.termwiz_surface.specs.Surface.{SurfaceValue}
 use Rattle.termwiz_surface.specs.Unlogged.{AddsUnlogged}
@@ -32,8 +32,8 @@ abbrev pub AddsChanges :
     Bool → List ChangeValue → SourceValue ChosenWidths → Outcome → SourceValue ChosenWidths → Type 0
 AddsChanges is_logged changes old outcome new =
     (number : ℕ) × (added : Result ℕ SurfaceError) × (outcome ≡ outcome_of changing_failure added) ×
-    AddsAs is_logged (columns_by old.surface.widths) (trimmed old.surface) changes number added
-    new.surface ×
+    AddsAs is_logged (columns_by old.surface.widths) (trimmed_surface old.surface) changes number
+    added new.surface ×
     PreservesServing columns_by old new
 
 -- the one list that the bytes encode, with nothing after it

@@ -2,7 +2,7 @@
 use Rattle.std.specs.Prelude.{◌≡◌, ℕ, Result, Err, OnOk, Option, Some, None}
 use Rattle.termwiz_screen.specs.Diff.{Region}
 use Rattle.termwiz_share.specs.Serving.{PreservesServing}
-use Rattle.termwiz_share.specs.Source.{SourceValue, trimmed}
+use Rattle.termwiz_share.specs.Source.{SourceValue, trimmed_surface}
 use Rattle.termwiz_surface.specs.{HasCopied, HasDrawn, IsCopied, IsDrawn, SurfaceValue, copied_region, region_at, screen_of}
 use Rattle.termwiz_surface.specs.declared.surface.SurfaceError.{SurfaceError}
 use Rattle.termwiz_surface.specs.declared.surface.SurfaceError.TheVariants.{ScrollRegion}
@@ -19,7 +19,7 @@ use Rattle.tikeburo_c.specs.declared.widths.ChosenWidths.{ChosenWidths}
 pub record DrawsAs (source : SurfaceValue ChosenWidths) (r : Region)
     (old : SourceValue ChosenWidths) (result : Result ℕ SurfaceError)
     (new : SourceValue ChosenWidths) : Type 0 where
-  pub drawn : IsDrawn columns_by (trimmed old.surface) source r result new.surface
+  pub drawn : IsDrawn columns_by (trimmed_surface old.surface) source r result new.surface
   -- all but the rows is as before
   pub restores :
       OnOk result
@@ -51,7 +51,8 @@ DrawsSource None r = Refused NoHandle
 pub record CopiesAs (from_x from_y width height x y : ℕ) (old : SourceValue ChosenWidths)
     (result : Result ℕ SurfaceError) (new : SourceValue ChosenWidths) : Type 0 where
   pub copied :
-      IsCopied columns_by (trimmed old.surface) from_x from_y width height x y result new.surface
+      IsCopied columns_by (trimmed_surface old.surface) from_x from_y width height x y result
+      new.surface
   -- what the region showed before, where no wide grapheme crosses an edge
   pub region :
       OnOk result
@@ -71,7 +72,7 @@ Copies from_x from_y width height x y old outcome new =
 pub record DrawsRegionAs (from_x from_y width height x y : ℕ) (old : SourceValue ChosenWidths)
     (result : Result ℕ SurfaceError) (new : SourceValue ChosenWidths) : Type 0 where
   pub drawn :
-      IsDrawn columns_by (trimmed old.surface) (trimmed old.surface)
+      IsDrawn columns_by (trimmed_surface old.surface) (trimmed_surface old.surface)
       (region_at x y width height from_x from_y) result new.surface
   -- all but the rows is as before
   pub restores :

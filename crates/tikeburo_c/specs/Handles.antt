@@ -4,5 +4,5 @@ use Rattle.tikeburo_c.specs.declared.handle.Handle.{Handle}
 use Rattle.tikeburo_c.specs.declared.kept.Kept.{Kept}
 
 -- the value that the handle has, if it has one
-abbrev pub kept_of : Handle → Option Kept
-kept_of handle = handle.loose.value
+abbrev pub handle_value : Handle → Option Kept
+handle_value handle = handle.loose.value

@@ -13,11 +13,11 @@ use Rattle.termwiz_cell.specs.Link.{Link}
 use Rattle.termwiz_cell.specs.declared.change.Position.{Position}
 use Rattle.termwiz_cell.specs.declared.change.Position.TheVariants.{Absolute, EndRelative, Relative}
 use Rattle.termwiz_share.specs.Source.{SourceValue}
+use Rattle.termwiz_wire.specs.Decoding.{visibility_of}
 use Rattle.tikeburo_c.specs.Changes.{AddsChanges}
 use Rattle.tikeburo_c.specs.Fields.{attributes_in, color_in}
-use Rattle.tikeburo_c.specs.Numbers.{blink_in, intensity_in, line_in, numbered, shape_in, underline_in}
+use Rattle.tikeburo_c.specs.Numbers.{blink_in, cursor_shape_in, intensity_in, line_in, numbered, underline_in}
 use Rattle.tikeburo_c.specs.Outcomes.{Outcome}
-use Rattle.tikeburo_c.specs.Reading.{visibility_of}
 use Rattle.tikeburo_c.specs.Results.{OrNoMemory, Refused}
 use Rattle.tikeburo_c.specs.declared.failure.Failure.{Failure}
 use Rattle.tikeburo_c.specs.declared.failure.Failure.TheVariants.{Range, Unreadable}
@@ -27,8 +27,8 @@ use Rattle.tikeburo_c.specs.declared.lists.Kind.{Kind}
 use Rattle.tikeburo_c.specs.declared.lists.Kind.TheVariants as kind
 use Rattle.tikeburo_c.specs.declared.widths.ChosenWidths.{ChosenWidths}
 
-abbrev pub kind_at : ℕ → Kind
-kind_at n =
+abbrev pub kind_of_number : ℕ → Kind
+kind_of_number n =
     if n == 0 then kind.Text
     else if n == 1 then kind.Title
     else if n == 2 then kind.Link
@@ -55,8 +55,8 @@ kind_at n =
     else kind.LineAttribute
 
 -- the kind of this number, if there is one
-abbrev pub kind_in : ℕ → Option Kind
-kind_in = numbered 24 kind_at
+abbrev pub change_kind_in : ℕ → Option Kind
+change_kind_in = numbered 24 kind_of_number
 
 -- a change of this kind has a text: to print, as the title, or as a link
 abbrev pub has_text : Kind → Bool
@@ -76,8 +76,8 @@ in_range (Some x) = Ok x
 in_range None = Err Range
 
 -- the text, if the bytes are one
-abbrev pub text_in : List ℕ → Result (List ℕ) Failure
-text_in bytes = if is_utf8 bytes then Ok bytes else Err Unreadable
+abbrev pub readable_text : List ℕ → Result (List ℕ) Failure
+readable_text bytes = if is_utf8 bytes then Ok bytes else Err Unreadable
 
 -- a link to this uri, and one with an id
 abbrev pub link_to : List ℕ → Link
@@ -89,12 +89,12 @@ link_with_id uri id = record (link_to uri) { params = (codes "id", id) ∷ [] }
 -- the link that a text is, or why it is none: its last n bytes are the id, and the others the uri
 abbrev pub link_in : ℕ → List ℕ → Result Link Failure
 link_in n text =
-    if n == 0 then (text_in text >>= λ uri. Ok (link_to uri))
+    if n == 0 then (readable_text text >>= λ uri. Ok (link_to uri))
     else if nat_lt (length text) n then Err Range
     else of (take (length text - n) text) (drop (length text - n) text)
   where
     of : List ℕ → List ℕ → Result Link Failure
-    of uri id = text_in uri >>= λ u. text_in id >>= λ i. Ok (link_with_id u i)
+    of uri id = readable_text uri >>= λ u. readable_text id >>= λ i. Ok (link_with_id u i)
 
 -- the attributes with a link to this uri, unless it is empty
 abbrev pub with_link : List ℕ → Attributes → Attributes
@@ -121,9 +121,9 @@ position_in from n =
     else None
 
 -- the move to a column and a row, if there are both
-abbrev pub moved : Option Position → Option Position → Option ChangeValue
-moved (Some x) (Some y) = Some (change.CursorPosition x y)
-moved _ _ = None
+abbrev pub cursor_move : Option Position → Option Position → Option ChangeValue
+cursor_move (Some x) (Some y) = Some (change.CursorPosition x y)
+cursor_move _ _ = None
 
 -- a change of one attribute, if that is in its range
 abbrev pub attribute_in : Kind → AttributeFields → Option AttributeChangeValue
@@ -141,13 +141,13 @@ attribute_in _ f = None
 
 -- a change of a kind, with its text, or why there is none
 abbrev pub change_in : Kind → ChangeFields → List ℕ → Result ChangeValue Failure
-change_in kind.Text f text = text_in text >>= λ t. Ok (change.Text t)
-change_in kind.Title f text = text_in text >>= λ t. Ok (change.Title t)
+change_in kind.Text f text = readable_text text >>= λ t. Ok (change.Text t)
+change_in kind.Title f text = readable_text text >>= λ t. Ok (change.Title t)
 change_in kind.Link f text =
     link_in f.second text >>= λ link. Ok (change.Attribute (attribute.Hyperlink (Some link)))
 change_in kind.Pen f text = pen_in f text >>= λ a. Ok (change.AllAttributes a)
 change_in kind.Move f text =
-    in_range (moved (position_in (f.third % 4) f.first) (position_in (f.third / 4) f.second))
+    in_range (cursor_move (position_in (f.third % 4) f.first) (position_in (f.third / 4) f.second))
 change_in kind.ClearScreen f text =
     in_range (option_map change.ClearScreen (color_in f.attributes.background))
 change_in kind.ClearToEndOfLine f text =
@@ -158,15 +158,16 @@ change_in kind.ScrollUp f text = Ok (change.ScrollRegionUp f.first f.second f.th
 change_in kind.ScrollDown f text = Ok (change.ScrollRegionDown f.first f.second f.third)
 change_in kind.CursorVisibility f text =
     Ok (change.CursorVisibility (visibility_of (not (f.first == 0))))
-change_in kind.CursorShape f text = in_range (option_map change.CursorShape (shape_in f.first))
+change_in kind.CursorShape f text =
+    in_range (option_map change.CursorShape (cursor_shape_in f.first))
 change_in kind.CursorColor f text =
     in_range (option_map change.CursorColor (color_in f.attributes.foreground))
 change_in kind.LineAttribute f text = in_range (option_map change.LineAttribute (line_in f.first))
 change_in k f text = in_range (option_map change.Attribute (attribute_in k f.attributes))
 
 -- the first change of a list, and the texts of the others, or why there is none
-abbrev pub first_in : ChangeFields → List ℕ → Result (ChangeValue × List ℕ) Failure
-first_in f texts = in_range (kind_in f.kind) >>= λ k.
+abbrev pub first_change_in : ChangeFields → List ℕ → Result (ChangeValue × List ℕ) Failure
+first_change_in f texts = in_range (change_kind_in f.kind) >>= λ k.
     if nat_lt (length texts) (text_len k f) then Err Range
     else (change_in k f (take (text_len k f) texts) >>= λ c. Ok (c, drop (text_len k f) texts))
 
@@ -175,7 +176,7 @@ first_in f texts = in_range (kind_in f.kind) >>= λ k.
 unfoldable pub listed_in : List ChangeFields → List ℕ → Result (List ChangeValue) Failure
 listed_in [] [] = Ok []
 listed_in [] (b ∷ bs) = Err Range
-listed_in (f ∷ fs) texts = first_in f texts >>= λ x. listed_in fs x.1 >>= λ cs. Ok (x.0 ∷ cs)
+listed_in (f ∷ fs) texts = first_change_in f texts >>= λ x. listed_in fs x.1 >>= λ cs. Ok (x.0 ∷ cs)
 
 -- the listed changes are added, and logged or not, or the list is refused by its first fault,
 -- unless memory was refused

@@ -63,8 +63,8 @@ ResizesIn width height old outcome new =
     (Refused Range old outcome new)
 
 -- a client that shows nothing yet
-abbrev pub blank_client : ChosenWidths → Limits → ClientValue ChosenWidths
-blank_client widths limits =
+abbrev pub client_within : ChosenWidths → Limits → ClientValue ChosenWidths
+client_within widths limits =
     record {
       surface = blank_surface widths 1 1 true;
       source = 0;
@@ -87,7 +87,8 @@ widths_within bytes number = limited bytes (widths_at number)
 
 -- a client of these widths and limits is made, in the place of what the handle had
 abbrev pub MakesClient : Option ChosenWidths → Limits → Option Kept → Outcome → Option Kept → Type 0
-MakesClient (Some widths) limits = OrNoMemory (Returns (Some (Client (blank_client widths limits))))
+MakesClient (Some widths) limits =
+    OrNoMemory (Returns (Some (Client (client_within widths limits))))
 MakesClient None limits = Refused Range
 
 -- a client is made that measures by a table of widths, if the ranges are one

@@ -28,8 +28,8 @@ semantic_in = numbered 3 semantic_at
 abbrev pub align_in : ℕ → Option VerticalAlign
 align_in = numbered 3 vertical_at
 
-abbrev pub shape_in : ℕ → Option CursorShape
-shape_in = numbered 7 shape_at
+abbrev pub cursor_shape_in : ℕ → Option CursorShape
+cursor_shape_in = numbered 7 shape_at
 
 abbrev pub line_in : ℕ → Option LineAttribute
 line_in = numbered 4 line_at

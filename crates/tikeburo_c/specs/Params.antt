@@ -16,9 +16,9 @@ abbrev pub lent_param : Bor (List ℕ) × Bor (List ℕ) → Param
 lent_param p = (p.0.now, p.1.now)
 
 -- the param at this index of a link, in the order of their keys, if there is one
-abbrev pub param_at : ℕ → Option Link → Option Param
-param_at index (Some link) = slice_get link.params index
-param_at index None = None
+abbrev pub link_param_at : ℕ → Option Link → Option Param
+link_param_at index (Some link) = slice_get link.params index
+link_param_at index None = None
 
 -- the caller's buffers for a key and for a value
 abbrev pub ParamPlace : Type 0
@@ -45,5 +45,5 @@ GivesParam None = Refused Range
 
 -- of the link of a cell that there is
 abbrev pub GivesCellParam : ℕ → Option CellValue → ParamPlace → Outcome → ParamPlace → Type 0
-GivesCellParam index (Some cell) = GivesParam (param_at index cell.attrs.hyperlink)
+GivesCellParam index (Some cell) = GivesParam (link_param_at index cell.attrs.hyperlink)
 GivesCellParam index None = Refused Range

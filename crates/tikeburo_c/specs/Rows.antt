@@ -40,12 +40,12 @@ row_cell begin run c = record {
 }
 
 -- cells whose texts begin at this byte, after `runs` runs of attributes: each has the last run
-abbrev pub cells_from : ℕ → ℕ → Option Attributes → List VisibleCell → List RowCellFields
-cells_from begin runs before [] = []
-cells_from begin runs before (p ∷ ps) =
+abbrev pub cell_fields_from : ℕ → ℕ → Option Attributes → List VisibleCell → List RowCellFields
+cell_fields_from begin runs before [] = []
+cell_fields_from begin runs before (p ∷ ps) =
     let up_to = runs + length (begun before p.cell.attrs) in
     row_cell begin (up_to - 1) p.cell
-    ∷ cells_from (begin + length p.cell.text) up_to (Some p.cell.attrs) ps
+    ∷ cell_fields_from (begin + length p.cell.text) up_to (Some p.cell.attrs) ps
 
 -- what is read of a row
 pub record RowValue : Type 0 where
@@ -55,7 +55,7 @@ pub record RowValue : Type 0 where
 
 abbrev pub row_value : List VisibleCell → RowValue
 row_value cells = record {
-  cells = cells_from 0 0 None cells;
+  cells = cell_fields_from 0 0 None cells;
   attributes = runs_of None cells;
   text = texts_of cells;
 }

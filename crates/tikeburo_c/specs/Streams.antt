@@ -6,7 +6,7 @@ use Rattle.termwiz_share.specs.Client.{ClientValue, IsReady, ask_of}
 use Rattle.termwiz_share.specs.Feeding.{Feeds, KeepsPiece, TakesNext}
 use Rattle.termwiz_share.specs.Histories.{ClientFollows, FollowsNext, ClientFollowsTo, Given}
 use Rattle.termwiz_share.specs.Serving.{KeepsSources, PreservesServing, Serves, ShowsSource}
-use Rattle.termwiz_share.specs.Source.{IsResponse, SourceValue, response_bytes, trimmed}
+use Rattle.termwiz_share.specs.Source.{IsResponse, SourceValue, response_bytes, trimmed_surface}
 use Rattle.termwiz_share.specs.declared.error.ClientError.{ClientError}
 use Rattle.termwiz_share.specs.declared.error.ClientError.TheVariants as errors
 use Rattle.termwiz_share.specs.declared.taken.Taken.{Taken}
@@ -48,7 +48,7 @@ pub record AnswersAsk (a : Ask) (old : Answering) (outcome : Outcome) (new : Ans
   pub response : IsResponse columns_by new.0 a bytes
   pub given : bytes ≡ response_bytes columns_by new.0 a
   pub gives : GivesInto bytes old.1 outcome new.1
-  pub trims : new.0 ≡ record old.0 { surface = trimmed old.0.surface }
+  pub trims : new.0 ≡ record old.0 { surface = trimmed_surface old.0.surface }
   pub preserves : PreservesServing columns_by old.0 new.0
 
 -- it answers some ask that the bytes encode

@@ -3,7 +3,7 @@ use Rattle.std.specs.Borrow.{Bor}
 use Rattle.std.specs.Prelude.{ℕ, true, List, [], ◌∷◌, Option, Some, None, Result, Ok, Err, length}
 use Rattle.termwiz_cell.specs.Width.{columns_of}
 use Rattle.termwiz_text.specs.{graphemes}
-use Rattle.tikeburo_c.specs.Lists.{text_in}
+use Rattle.tikeburo_c.specs.Lists.{readable_text}
 use Rattle.tikeburo_c.specs.Outcomes.{Outcome}
 use Rattle.tikeburo_c.specs.Results.{Refused, Returns}
 use Rattle.tikeburo_c.specs.Widths.{AreBy, columns_by}
@@ -14,7 +14,7 @@ use Rattle.tikeburo_c.specs.declared.widths.ChosenWidths.{ChosenWidths}
 
 -- the call returned this value of the text that the bytes are, if they are one
 abbrev pub ReadsText : {B : Type 0} → (List ℕ → B) → List ℕ → B → Outcome → B → Type 0
-ReadsText {B} read bytes = of_text (text_in bytes)
+ReadsText {B} read bytes = of_text (readable_text bytes)
   where
     of_text : Result (List ℕ) Failure → B → Outcome → B → Type 0
     of_text (Ok text) = Returns (read text)

@@ -2,7 +2,7 @@
 ghost use Rattle.std.specs.Prelude.{◌≡◌, Some};
 ghost use Rattle.std.specs.Fn.{FnOnceReturnsAt, FnOnceReturnsAtMut};
 ghost use Rattle.tikeburo_c.specs.Access.{Computes, FillsBy};
-ghost use Rattle.tikeburo_c.specs.Handles.{kept_of};
+ghost use Rattle.tikeburo_c.specs.Handles.{handle_value};
 ghost use Rattle.tikeburo_c.specs.Results.{OnLines, OnSurface, ReadsInto};
 
 use crate::failure::Failure;
@@ -22,7 +22,7 @@ pub(crate) fn on_surface<F: FnOnce(&mut Source<ChosenWidths>) -> Result<(), Fail
 ) -> Result<(), Failure>
     requires { F.IsAlwaysCallable action }
     ensures { OnSurface (λ old outcome new. FnOnceReturnsAtMut F.FnOnce action old outcome new)
-        (kept_of handle.old) result (kept_of handle.new) }
+        (handle_value handle.old) result (handle_value handle.new) }
 {
     let Some(mut kept) = handle.take(alloc) else {
         return Err(Failure::NoHandle);
@@ -53,7 +53,7 @@ pub(crate) fn on_lines<F: FnOnce(&mut LineList) -> Result<(), Failure> + Drop>(
 ) -> Result<(), Failure>
     requires { F.IsAlwaysCallable action }
     ensures { OnLines (λ old outcome new. FnOnceReturnsAtMut F.FnOnce action old outcome new)
-        (kept_of handle.old) result (kept_of handle.new) }
+        (handle_value handle.old) result (handle_value handle.new) }
 {
     let Some(mut kept) = handle.take(alloc) else {
         return Err(Failure::NoHandle);
@@ -85,8 +85,8 @@ pub(crate) fn read<T: Copy, F: FnOnce(&Surface<ChosenWidths>) -> T + Drop>(
 ) -> Result<(), Failure>
     requires { F.IsAlwaysCallable action }
     ensures read { ReadsInto (Computes (λ s x. FnOnceReturnsAt F.FnOnce action s x))
-        (kept_of handle.old) value.old result value.new }
-    ensures same { kept_of handle.new ≡ kept_of handle.old }
+        (handle_value handle.old) value.old result value.new }
+    ensures same { handle_value handle.new ≡ handle_value handle.old }
 {
     let Some(kept) = handle.take(alloc) else {
         return Err(Failure::NoHandle);
@@ -133,8 +133,8 @@ pub(crate) fn fill<
 ) -> Result<(), Failure>
     requires { F.IsAlwaysCallable action }
     ensures read { ReadsInto (λ s old outcome new. FillsBy F.FnOnce action s old outcome new)
-        (kept_of handle.old) (room.old, len.old) result (room.new, len.new) }
-    ensures same { kept_of handle.new ≡ kept_of handle.old }
+        (handle_value handle.old) (room.old, len.old) result (room.new, len.new) }
+    ensures same { handle_value handle.new ≡ handle_value handle.old }
 {
     let Some(kept) = handle.take(alloc) else {
         return Err(Failure::NoHandle);

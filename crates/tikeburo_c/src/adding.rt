@@ -1,7 +1,7 @@
 //! Lists of changes that are made on a surface, logged or not, and the rows that they scroll off,
 //! which are kept as lines or not.
 ghost use Rattle.std.specs.Prelude.{IsTrue};
-ghost use Rattle.tikeburo_c.specs.Handles.{kept_of};
+ghost use Rattle.tikeburo_c.specs.Handles.{handle_value};
 ghost use Rattle.tikeburo_c.specs.Lists.{AddsListed};
 ghost use Rattle.tikeburo_c.specs.Outcomes.{Reports};
 ghost use Rattle.tikeburo_c.specs.Results.{OnLines, OnSurface};
@@ -50,8 +50,8 @@ fn add_on<L: LineSink>(
     lines: &mut L,
 ) -> Result<(), Failure>
     ensures adds { OnSurface (AddsListed is_logged list.now texts.now)
-        (kept_of handle.old) result (kept_of handle.new) }
-    ensures lines { IsTrue L.KEEPS → AddsRowsOf list.now texts.now (kept_of handle.old)
+        (handle_value handle.old) result (handle_value handle.new) }
+    ensures lines { IsTrue L.KEEPS → AddsRowsOf list.now texts.now (handle_value handle.old)
         (L.lines_of lines.old) result (L.lines_of lines.new) }
 {
     let Some(mut kept) = handle.take(alloc) else {
@@ -75,11 +75,11 @@ fn add_keeping(
     texts: &[u8],
     lines: &mut Handle,
 ) -> Result<(), Failure>
-    ensures adds { WithLines (kept_of lines.old)
+    ensures adds { WithLines (handle_value lines.old)
         (OnSurface (AddsListed is_logged list.now texts.now))
-        (kept_of handle.old) result (kept_of handle.new) }
-    ensures lines { OnLines (AddsRowsOf list.now texts.now (kept_of handle.old))
-        (kept_of lines.old) result (kept_of lines.new) }
+        (handle_value handle.old) result (handle_value handle.new) }
+    ensures lines { OnLines (AddsRowsOf list.now texts.now (handle_value handle.old))
+        (handle_value lines.old) result (handle_value lines.new) }
 {
     let Some(mut kept) = lines.take(alloc) else {
         return Err(Failure::NoHandle);
@@ -107,12 +107,12 @@ pub extern "C" fn tk_add_list_distinct(
     keeps_lines: bool,
     lines: &mut Handle,
 ) -> i32
-    ensures adds { Reports result (λ outcome. WithLinesIf keeps_lines (kept_of lines.old)
+    ensures adds { Reports result (λ outcome. WithLinesIf keeps_lines (handle_value lines.old)
         (OnSurface (AddsListed is_logged list.now texts.now))
-        (kept_of handle.old) outcome (kept_of handle.new)) }
+        (handle_value handle.old) outcome (handle_value handle.new)) }
     ensures lines { Reports result (λ outcome. OnLinesIf keeps_lines
-        (AddsRowsOf list.now texts.now (kept_of handle.old))
-        (kept_of lines.old) outcome (kept_of lines.new)) }
+        (AddsRowsOf list.now texts.now (handle_value handle.old))
+        (handle_value lines.old) outcome (handle_value lines.new)) }
 {
     let outcome = if keeps_lines {
         add_keeping(alloc, handle, is_logged, list, texts, lines)

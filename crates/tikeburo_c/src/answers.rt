@@ -1,6 +1,6 @@
 //! The answers of surfaces, as bytes.
 ghost use Rattle.std.specs.Prelude.{◌≡◌};
-ghost use Rattle.tikeburo_c.specs.Handles.{kept_of};
+ghost use Rattle.tikeburo_c.specs.Handles.{handle_value};
 ghost use Rattle.tikeburo_c.specs.Outcomes.{Reports};
 ghost use Rattle.tikeburo_c.specs.Results.{OrNoMemory};
 ghost use Rattle.tikeburo_c.specs.Streams.{AnswersAsk, AnswersBytes, AnswersIn};
@@ -56,8 +56,8 @@ pub extern "C" fn tk_respond(
     len: &mut usize,
 ) -> i32
     ensures { Reports result (λ outcome. AnswersIn ask.now
-        (kept_of handle.old, (room.old, len.old))
-        outcome (kept_of handle.new, (room.new, len.new))) }
+        (handle_value handle.old, (room.old, len.old))
+        outcome (handle_value handle.new, (room.new, len.new))) }
 {
     let outcome = match handle.take(alloc) {
         Some(mut kept) => {

@@ -1,6 +1,6 @@
 //! The calls for streams, one after another: a proved caller.
 ghost use Rattle.std.specs.Prelude.{pos, ◌≡◌, length};
-ghost use Rattle.tikeburo_c.specs.Handles.{kept_of};
+ghost use Rattle.tikeburo_c.specs.Handles.{handle_value};
 ghost use Rattle.tikeburo_c.specs.Outcomes.{Reports};
 ghost use Rattle.tikeburo_c.specs.Streams.{MayCarry, ServesIn, ShowsAsBefore, ShowsIn};
 
@@ -23,13 +23,14 @@ pub(crate) fn carry(
     room: &mut [u8],
     fault: &mut FaultFields,
 ) -> i32
-    ensures shows { ServesIn (kept_of surface.old) (kept_of client.old) →
-        result ≡ pos 0 → ShowsIn (kept_of surface.new) (kept_of client.new) }
-    ensures serves { ServesIn (kept_of surface.old) (kept_of client.old) →
-        ServesIn (kept_of surface.new) (kept_of client.new) }
-    ensures fails { ServesIn (kept_of surface.old) (kept_of client.old) →
-        Reports result (MayCarry (kept_of surface.new) (kept_of client.new) (length room.old)) }
-    ensures same { ShowsAsBefore (kept_of surface.old) (kept_of surface.new) }
+    ensures shows { ServesIn (handle_value surface.old) (handle_value client.old) →
+        result ≡ pos 0 → ShowsIn (handle_value surface.new) (handle_value client.new) }
+    ensures serves { ServesIn (handle_value surface.old) (handle_value client.old) →
+        ServesIn (handle_value surface.new) (handle_value client.new) }
+    ensures fails { ServesIn (handle_value surface.old) (handle_value client.old) →
+        Reports result (MayCarry (handle_value surface.new) (handle_value client.new)
+        (length room.old)) }
+    ensures same { ShowsAsBefore (handle_value surface.old) (handle_value surface.new) }
 {
     let reset = tk_client_reset(alloc, client);
     if reset != 0 {

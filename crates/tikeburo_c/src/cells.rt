@@ -4,7 +4,7 @@ ghost use Rattle.termwiz_cell.specs.CellValue as cell_value;
 ghost use Rattle.termwiz_surface.specs.{texts_of, visible};
 ghost use Rattle.tikeburo_c.specs.Cells.{CellPlace, GivesCell, GivesLink, GivesRow, cell_in};
 ghost use Rattle.tikeburo_c.specs.Cells.{ReadsLine, uri_of};
-ghost use Rattle.tikeburo_c.specs.Handles.{kept_of};
+ghost use Rattle.tikeburo_c.specs.Handles.{handle_value};
 ghost use Rattle.tikeburo_c.specs.Outcomes.{Reports};
 ghost use Rattle.tikeburo_c.specs.Results.{GivesInto, OrNoMemory, ReadsInto};
 ghost use Rattle.tikeburo_c.specs.declared.failure.Failure.TheVariants.{Memory, Range};
@@ -107,8 +107,8 @@ pub extern "C" fn tk_row_text(
     len: &mut usize,
 ) -> i32
     ensures read { Reports result (λ outcome. ReadsInto (λ s. OrNoMemory (GivesRow filled row s))
-        (kept_of handle.old) (room.old, len.old) outcome (room.new, len.new)) }
-    ensures same { kept_of handle.new ≡ kept_of handle.old }
+        (handle_value handle.old) (room.old, len.old) outcome (room.new, len.new)) }
+    ensures same { handle_value handle.new ≡ handle_value handle.old }
 {
     let outcome = fill(alloc, handle, room, len, |surface, room, len| {
         give_row(surface, row, filled, room, len)
@@ -134,8 +134,8 @@ pub extern "C" fn tk_line_attribute(
     attribute: &mut u8,
 ) -> i32
     ensures read { Reports result (λ outcome. ReadsInto (λ s. ReadsLine row s)
-        (kept_of handle.old) attribute.old outcome attribute.new) }
-    ensures same { kept_of handle.new ≡ kept_of handle.old }
+        (handle_value handle.old) attribute.old outcome attribute.new) }
+    ensures same { handle_value handle.new ≡ handle_value handle.old }
 {
     let outcome = match handle.take(alloc) {
         Some(kept) => {
@@ -217,9 +217,9 @@ pub extern "C" fn tk_cell_at(
 ) -> i32
     ensures read { Reports result (λ outcome.
         ReadsInto {B = CellPlace} (λ s. GivesCell (cell_in column row s))
-        (kept_of handle.old) (fields.old, (room.old, len.old))
+        (handle_value handle.old) (fields.old, (room.old, len.old))
         outcome (fields.new, (room.new, len.new))) }
-    ensures same { kept_of handle.new ≡ kept_of handle.old }
+    ensures same { handle_value handle.new ≡ handle_value handle.old }
 {
     let outcome = match handle.take(alloc) {
         Some(kept) => {
@@ -269,8 +269,8 @@ pub extern "C" fn tk_link_at(
 ) -> i32
     ensures read { Reports result (λ outcome.
         ReadsInto (λ s. GivesLink (cell_in column row s))
-        (kept_of handle.old) (room.old, len.old) outcome (room.new, len.new)) }
-    ensures same { kept_of handle.new ≡ kept_of handle.old }
+        (handle_value handle.old) (room.old, len.old) outcome (room.new, len.new)) }
+    ensures same { handle_value handle.new ≡ handle_value handle.old }
 {
     let outcome = fill(alloc, handle, room, len, |surface, room, len| {
         read_link(surface, column, row, room, len)

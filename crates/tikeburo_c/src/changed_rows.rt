@@ -1,7 +1,7 @@
 //! Which rows may have changed since a surface had a number.
 ghost use Rattle.std.specs.Prelude.{◌≡◌, IfOk, Some};
 ghost use Rattle.tikeburo_c.specs.ChangedRows as specs_of;
-ghost use Rattle.tikeburo_c.specs.Handles.{kept_of};
+ghost use Rattle.tikeburo_c.specs.Handles.{handle_value};
 ghost use Rattle.tikeburo_c.specs.Outcomes.{Reports};
 ghost use Rattle.tikeburo_c.specs.Results.{GivesInto, OrNoMemory, ReadsInto};
 
@@ -69,8 +69,8 @@ pub extern "C" fn tk_changed_rows(
 ) -> i32
     ensures read { Reports result (λ outcome.
         ReadsInto (λ s. OrNoMemory (GivesInto (specs_of.changed_rows since s)))
-        (kept_of handle.old) (room.old, len.old) outcome (room.new, len.new)) }
-    ensures same { kept_of handle.new ≡ kept_of handle.old }
+        (handle_value handle.old) (room.old, len.old) outcome (room.new, len.new)) }
+    ensures same { handle_value handle.new ≡ handle_value handle.old }
 {
     let outcome = match handle.take(alloc) {
         Some(kept) => {

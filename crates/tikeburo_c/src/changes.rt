@@ -3,7 +3,7 @@ ghost use Rattle.std.specs.Prelude.{IsTrue};
 ghost use Rattle.termwiz_surface.specs.ChangeLists.{change_list, is_logged};
 ghost use Rattle.tikeburo_c.specs.Changes.{AddsBytes, AddsChanges, IsOnlyList};
 ghost use Rattle.tikeburo_c.specs.Outcomes.{Reports};
-ghost use Rattle.tikeburo_c.specs.Handles.{kept_of};
+ghost use Rattle.tikeburo_c.specs.Handles.{handle_value};
 ghost use Rattle.tikeburo_c.specs.Results.{OnSurface};
 ghost use Rattle.tikeburo_c.specs.Scrolling.{AddsRows, rows_off};
 ghost use Rattle.tikeburo_c.specs.Widths.{columns_by};
@@ -56,7 +56,7 @@ fn add_bytes(alloc: Global, surface: &mut Source<ChosenWidths>, bytes: &[u8]) ->
 #[unsafe(no_mangle)]
 pub extern "C" fn tk_add_encoded(alloc: Global, handle: &mut Handle, bytes: &[u8]) -> i32
     ensures { Reports result (λ outcome. OnSurface (AddsBytes bytes.now)
-        (kept_of handle.old) outcome (kept_of handle.new)) }
+        (handle_value handle.old) outcome (handle_value handle.new)) }
 {
     let outcome = on_surface(alloc, handle, |surface| add_bytes(alloc, surface, bytes));
     status(outcome)

@@ -1,7 +1,7 @@
 //! Clients: how they are made, ask, and are fed.
 ghost use Rattle.std.specs.Prelude.{◌≡◌, ◌<◌, Err, IfErr, IfOk};
-ghost use Rattle.tikeburo_c.specs.Handles.{kept_of};
-ghost use Rattle.tikeburo_c.specs.Making.{MakesClient, MakesClientBy, blank_client, limited};
+ghost use Rattle.tikeburo_c.specs.Handles.{handle_value};
+ghost use Rattle.tikeburo_c.specs.Making.{MakesClient, MakesClientBy, client_within, limited};
 ghost use Rattle.tikeburo_c.specs.Making.{usual_rows, widths_within};
 ghost use Rattle.tikeburo_c.specs.Outcomes.{Reports};
 ghost use Rattle.tikeburo_c.specs.Results.{OnClient, OnClientAnd};
@@ -47,7 +47,7 @@ fn blank_client(
 ) -> Result<Box<Kept>, Failure>
     requires some { 0 < limits.bytes }
     ensures made { IfOk result (λ kept.
-        kept.value ≡ kinds.Client (blank_client widths.entry limits)) }
+        kept.value ≡ kinds.Client (client_within widths.entry limits)) }
     ensures memory { IfErr result (λ failure. failure ≡ Memory) }
 {
     let client = Client::new(alloc, widths, limits)?;
@@ -62,7 +62,7 @@ fn make_client(
     limits: Limits,
 ) -> Result<(), Failure>
     ensures { MakesClient (limited limits.bytes widths.entry) limits
-        (kept_of handle.old) result (kept_of handle.new) }
+        (handle_value handle.old) result (handle_value handle.new) }
 {
     if limits.bytes == 0 {
         return Err(Failure::Range);
@@ -98,7 +98,7 @@ pub extern "C" fn tk_client_new(
 ) -> i32
     ensures { Reports result (λ outcome. MakesClient (widths_within bytes widths)
         (usual_rows cells bytes)
-        (kept_of handle.old) outcome (kept_of handle.new)) }
+        (handle_value handle.old) outcome (handle_value handle.new)) }
 {
     let limits = limits(cells, bytes);
     let widths = ChosenWidths::at(widths);
@@ -118,7 +118,7 @@ pub extern "C" fn tk_client_new_by(
 ) -> i32
     ensures { Reports result (λ outcome. MakesClientBy ranges.entry
         (usual_rows cells bytes)
-        (kept_of handle.old) outcome (kept_of handle.new)) }
+        (handle_value handle.old) outcome (handle_value handle.new)) }
 {
     let limits = limits(cells, bytes);
     let widths = ChosenWidths::by(ranges);
@@ -198,8 +198,8 @@ pub extern "C" fn tk_client_feed(
     fault: &mut FaultFields,
 ) -> i32
     ensures { Reports result (λ outcome. FeedsIn bytes.now
-        (kept_of handle.old, (taken.old, fault.old)) outcome
-        (kept_of handle.new, (taken.new, fault.new))) }
+        (handle_value handle.old, (taken.old, fault.old)) outcome
+        (handle_value handle.new, (taken.new, fault.new))) }
 {
     let outcome = match handle.take(alloc) {
         Some(mut kept) => {
@@ -237,7 +237,7 @@ pub extern "C" fn tk_client_keep(
     fault: &mut FaultFields,
 ) -> i32
     ensures { Reports result (λ outcome. OnClientAnd (KeepsBytes bytes.now)
-        (kept_of handle.old, fault.old) outcome (kept_of handle.new, fault.new)) }
+        (handle_value handle.old, fault.old) outcome (handle_value handle.new, fault.new)) }
 {
     let outcome = match handle.take(alloc) {
         Some(mut kept) => {
@@ -289,8 +289,8 @@ pub extern "C" fn tk_client_take_answer(
     fault: &mut FaultFields,
 ) -> i32
     ensures { Reports result (λ outcome. OnClientAnd TakesNextInto
-        (kept_of handle.old, (taken.old, fault.old)) outcome
-        (kept_of handle.new, (taken.new, fault.new))) }
+        (handle_value handle.old, (taken.old, fault.old)) outcome
+        (handle_value handle.new, (taken.new, fault.new))) }
 {
     let outcome = match handle.take(alloc) {
         Some(mut kept) => {
@@ -342,9 +342,9 @@ pub extern "C" fn tk_client_ask(
     room: &mut [u8],
     len: &mut usize,
 ) -> i32
-    ensures read { Reports result (λ outcome. GivesAsk (kept_of handle.old)
+    ensures read { Reports result (λ outcome. GivesAsk (handle_value handle.old)
         (room.old, len.old) outcome (room.new, len.new)) }
-    ensures same { kept_of handle.new ≡ kept_of handle.old }
+    ensures same { handle_value handle.new ≡ handle_value handle.old }
 {
     let outcome = match handle.take(alloc) {
         Some(kept) => {
@@ -368,7 +368,7 @@ fn reset(client: &mut Client<ChosenWidths>) -> Result<(), Failure>
 #[unsafe(no_mangle)]
 pub extern "C" fn tk_client_reset(alloc: Global, handle: &mut Handle) -> i32
     ensures { Reports result (λ outcome.
-        OnClient Resets (kept_of handle.old) outcome (kept_of handle.new)) }
+        OnClient Resets (handle_value handle.old) outcome (handle_value handle.new)) }
 {
     let outcome = match handle.take(alloc) {
         Some(mut kept) => {

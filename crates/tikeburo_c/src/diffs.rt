@@ -4,7 +4,7 @@ ghost use Rattle.termwiz_screen.specs.{region_value};
 ghost use Rattle.termwiz_surface.specs.{change_value, region_at};
 ghost use Rattle.tikeburo_c.specs.Diffs.{GivesDiff, GivesSameDiff, IsWrittenDiff, ReadsBoth};
 ghost use Rattle.tikeburo_c.specs.Getting.{ListPlace, list_place};
-ghost use Rattle.tikeburo_c.specs.Handles.{kept_of};
+ghost use Rattle.tikeburo_c.specs.Handles.{handle_value};
 ghost use Rattle.tikeburo_c.specs.Outcomes.{Reports};
 ghost use Rattle.tikeburo_c.specs.Results.{OrNoMemory, ReadsInto};
 
@@ -106,9 +106,9 @@ fn diff_from(
 ) -> Result<(), Failure>
     ensures read { ReadsInto {B = ListPlace}
         (λ s. GivesSameDiff (option_map region_value region) s other.now)
-        (kept_of handle.old) (list_place list.old texts.old counts.old)
+        (handle_value handle.old) (list_place list.old texts.old counts.old)
         result (list_place list.new texts.new counts.new) }
-    ensures same { kept_of handle.new ≡ kept_of handle.old }
+    ensures same { handle_value handle.new ≡ handle_value handle.old }
 {
     let Some(kept) = handle.take(alloc) else {
         return Err(Failure::NoHandle);
@@ -129,9 +129,9 @@ fn diff_kept(
 ) -> Result<(), Failure>
     ensures read { ReadsBoth {B = ListPlace}
         (GivesSameDiff (option_map region_value region))
-        (kept_of handle.old) (Some other.now) (list_place list.old texts.old counts.old)
+        (handle_value handle.old) (Some other.now) (list_place list.old texts.old counts.old)
         result (list_place list.new texts.new counts.new) }
-    ensures same { kept_of handle.new ≡ kept_of handle.old }
+    ensures same { handle_value handle.new ≡ handle_value handle.old }
 {
     let shown = other.shown()?;
     diff_from(alloc, handle, shown, region, list, texts, counts)
@@ -148,10 +148,11 @@ fn diff_both(
 ) -> Result<(), Failure>
     ensures read { ReadsBoth {B = ListPlace}
         (GivesSameDiff (option_map region_value region))
-        (kept_of handle.old) (kept_of other.old) (list_place list.old texts.old counts.old)
+        (handle_value handle.old) (handle_value other.old)
+        (list_place list.old texts.old counts.old)
         result (list_place list.new texts.new counts.new) }
-    ensures same { kept_of handle.new ≡ kept_of handle.old }
-    ensures other { kept_of other.new ≡ kept_of other.old }
+    ensures same { handle_value handle.new ≡ handle_value handle.old }
+    ensures other { handle_value other.new ≡ handle_value other.old }
 {
     let Some(kept) = other.take(alloc) else {
         return Err(Failure::NoHandle);
@@ -173,10 +174,11 @@ pub extern "C" fn tk_diff_screens_distinct(
 ) -> i32
     ensures read { Reports result (λ outcome.
         ReadsBoth {B = ListPlace} (GivesSameDiff None)
-        (kept_of handle.old) (kept_of other.old) (list_place list.old texts.old counts.old)
+        (handle_value handle.old) (handle_value other.old)
+        (list_place list.old texts.old counts.old)
         outcome (list_place list.new texts.new counts.new)) }
-    ensures same { kept_of handle.new ≡ kept_of handle.old }
-    ensures other { kept_of other.new ≡ kept_of other.old }
+    ensures same { handle_value handle.new ≡ handle_value handle.old }
+    ensures other { handle_value other.new ≡ handle_value other.old }
 {
     let outcome = diff_both(alloc, handle, other, None, list, texts, counts);
     status(outcome)
@@ -201,10 +203,11 @@ pub extern "C" fn tk_diff_region_distinct(
 ) -> i32
     ensures read { Reports result (λ outcome. ReadsBoth {B = ListPlace}
         (GivesSameDiff (Some (region_at column row width height other_column other_row)))
-        (kept_of handle.old) (kept_of other.old) (list_place list.old texts.old counts.old)
+        (handle_value handle.old) (handle_value other.old)
+        (list_place list.old texts.old counts.old)
         outcome (list_place list.new texts.new counts.new)) }
-    ensures same { kept_of handle.new ≡ kept_of handle.old }
-    ensures other { kept_of other.new ≡ kept_of other.old }
+    ensures same { handle_value handle.new ≡ handle_value handle.old }
+    ensures other { handle_value other.new ≡ handle_value other.old }
 {
     let region = Region {
         x: column,

@@ -3,7 +3,7 @@ ghost use Rattle.std.specs.Prelude.{◌≡◌, Some};
 ghost use Rattle.termwiz_screen.specs.{region_value};
 ghost use Rattle.termwiz_surface.specs.{region_at};
 ghost use Rattle.tikeburo_c.specs.Drawing.{Copies, DrawsFor, DrawsRegion, DrawsSame, DrawsSource};
-ghost use Rattle.tikeburo_c.specs.Handles.{kept_of};
+ghost use Rattle.tikeburo_c.specs.Handles.{handle_value};
 ghost use Rattle.tikeburo_c.specs.Outcomes.{Reports};
 ghost use Rattle.tikeburo_c.specs.Results.{OnSurface};
 
@@ -56,7 +56,7 @@ fn draw_shown(
     region: Region,
 ) -> Result<(), Failure>
     ensures { OnSurface (DrawsSame shown.now (region_value region))
-        (kept_of handle.old) result (kept_of handle.new) }
+        (handle_value handle.old) result (handle_value handle.new) }
 {
     let Some(mut kept) = handle.take(alloc) else {
         return Err(Failure::NoHandle);
@@ -76,7 +76,7 @@ fn draw_kept(
     region: Region,
 ) -> Result<(), Failure>
     ensures { DrawsSource (Some source.now) (region_value region)
-        (kept_of handle.old) result (kept_of handle.new) }
+        (handle_value handle.old) result (handle_value handle.new) }
 {
     let shown = source.shown()?;
     draw_shown(alloc, handle, shown, region)
@@ -95,10 +95,10 @@ pub extern "C" fn tk_draw_from_distinct(
     to_column: usize,
     to_row: usize,
 ) -> i32
-    ensures draws { Reports result (λ outcome. DrawsSource (kept_of source.old)
+    ensures draws { Reports result (λ outcome. DrawsSource (handle_value source.old)
         (region_at to_column to_row width height column row)
-        (kept_of handle.old) outcome (kept_of handle.new)) }
-    ensures source { kept_of source.new ≡ kept_of source.old }
+        (handle_value handle.old) outcome (handle_value handle.new)) }
+    ensures source { handle_value source.new ≡ handle_value source.old }
 {
     let region = Region {
         x: to_column,
@@ -148,7 +148,7 @@ pub extern "C" fn tk_copy(
 ) -> i32
     ensures { Reports result (λ outcome.
         OnSurface (Copies column row width height to_column to_row)
-        (kept_of handle.old) outcome (kept_of handle.new)) }
+        (handle_value handle.old) outcome (handle_value handle.new)) }
 {
     let outcome = on_surface(alloc, handle, |surface| {
         copy_within(surface, column, row, width, height, to_column, to_row)
@@ -185,7 +185,7 @@ pub extern "C" fn tk_draw_region(
 ) -> i32
     ensures { Reports result (λ outcome.
         OnSurface (DrawsRegion column row width height to_column to_row)
-        (kept_of handle.old) outcome (kept_of handle.new)) }
+        (handle_value handle.old) outcome (handle_value handle.new)) }
 {
     let outcome = on_surface(alloc, handle, |surface| {
         draw_within(surface, column, row, width, height, to_column, to_row)

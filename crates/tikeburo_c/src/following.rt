@@ -3,7 +3,7 @@ ghost use Rattle.std.specs.Prelude.{◌≡◌, IfErr, IfOk, OnOk, Some};
 ghost use Rattle.termwiz_surface.specs.Following.{Follows, blank_viewer};
 ghost use Rattle.tikeburo_c.specs.Following.{FollowsSame, FollowsSource, MakesViewer};
 ghost use Rattle.tikeburo_c.specs.Following.{blank_follower};
-ghost use Rattle.tikeburo_c.specs.Handles.{kept_of};
+ghost use Rattle.tikeburo_c.specs.Handles.{handle_value};
 ghost use Rattle.tikeburo_c.specs.Outcomes.{Reports};
 ghost use Rattle.tikeburo_c.specs.Results.{OnViewer};
 ghost use Rattle.tikeburo_c.specs.Widths.{columns_by};
@@ -35,7 +35,8 @@ fn blank_viewer(
 }
 
 fn make_viewer_of(alloc: Global, viewer: &mut Handle, source: &Kept) -> Result<(), Failure>
-    ensures { MakesViewer (Some source.now) (kept_of viewer.old) result (kept_of viewer.new) }
+    ensures { MakesViewer (Some source.now)
+        (handle_value viewer.old) result (handle_value viewer.new) }
 {
     let surface = source.shown()?;
     let made = blank_viewer(alloc, surface, source.number())?;
@@ -44,9 +45,9 @@ fn make_viewer_of(alloc: Global, viewer: &mut Handle, source: &Kept) -> Result<(
 }
 
 fn make_viewer(alloc: Global, viewer: &mut Handle, source: &mut Handle) -> Result<(), Failure>
-    ensures made { MakesViewer (kept_of source.old)
-        (kept_of viewer.old) result (kept_of viewer.new) }
-    ensures source { kept_of source.new ≡ kept_of source.old }
+    ensures made { MakesViewer (handle_value source.old)
+        (handle_value viewer.old) result (handle_value viewer.new) }
+    ensures source { handle_value source.new ≡ handle_value source.old }
 {
     let Some(kept) = source.take(alloc) else {
         return Err(Failure::NoHandle);
@@ -63,9 +64,9 @@ pub extern "C" fn tk_viewer_new_distinct(
     viewer: &mut Handle,
     source: &mut Handle,
 ) -> i32
-    ensures made { Reports result (λ outcome. MakesViewer (kept_of source.old)
-        (kept_of viewer.old) outcome (kept_of viewer.new)) }
-    ensures source { kept_of source.new ≡ kept_of source.old }
+    ensures made { Reports result (λ outcome. MakesViewer (handle_value source.old)
+        (handle_value viewer.old) outcome (handle_value viewer.new)) }
+    ensures source { handle_value source.new ≡ handle_value source.old }
 {
     let outcome = make_viewer(alloc, viewer, source);
     status(outcome)
@@ -90,7 +91,7 @@ fn follow_shown(
     number: usize,
 ) -> Result<(), Failure>
     ensures { OnViewer (FollowsSame number shown.now)
-        (kept_of handle.old) result (kept_of handle.new) }
+        (handle_value handle.old) result (handle_value handle.new) }
 {
     let Some(mut kept) = handle.take(alloc) else {
         return Err(Failure::NoHandle);
@@ -104,7 +105,8 @@ fn follow_shown(
 }
 
 fn follow_kept(alloc: Global, handle: &mut Handle, source: &Kept) -> Result<(), Failure>
-    ensures { FollowsSource (Some source.now) (kept_of handle.old) result (kept_of handle.new) }
+    ensures { FollowsSource (Some source.now)
+        (handle_value handle.old) result (handle_value handle.new) }
 {
     let shown = source.shown()?;
     follow_shown(alloc, handle, shown, source.number())
@@ -113,9 +115,9 @@ fn follow_kept(alloc: Global, handle: &mut Handle, source: &Kept) -> Result<(), 
 /// The viewer shows what the source shows.
 #[unsafe(no_mangle)]
 pub extern "C" fn tk_follow_distinct(alloc: Global, handle: &mut Handle, source: &mut Handle) -> i32
-    ensures follows { Reports result (λ outcome.
-        FollowsSource (kept_of source.old) (kept_of handle.old) outcome (kept_of handle.new)) }
-    ensures source { kept_of source.new ≡ kept_of source.old }
+    ensures follows { Reports result (λ outcome. FollowsSource (handle_value source.old)
+        (handle_value handle.old) outcome (handle_value handle.new)) }
+    ensures source { handle_value source.new ≡ handle_value source.old }
 {
     let outcome = match source.take(alloc) {
         Some(kept) => {

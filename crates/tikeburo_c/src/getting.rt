@@ -4,7 +4,7 @@ ghost use Rattle.termwiz_surface.specs.{change_value, next_number, stream_of};
 ghost use Rattle.tikeburo_c.specs.Getting as getting;
 ghost use Rattle.tikeburo_c.specs.Getting.{GivesAll, GivesChanges, GivesList, ListPlace};
 ghost use Rattle.tikeburo_c.specs.Getting.{list_place};
-ghost use Rattle.tikeburo_c.specs.Handles.{kept_of};
+ghost use Rattle.tikeburo_c.specs.Handles.{handle_value};
 ghost use Rattle.tikeburo_c.specs.Outcomes.{Reports};
 ghost use Rattle.tikeburo_c.specs.Results.{OrNoMemory, ReadsInto};
 
@@ -125,10 +125,10 @@ pub extern "C" fn tk_get_changes(
     counts: &mut ListCounts,
 ) -> i32
     ensures read { Reports result (λ outcome.
-        ReadsInto {B = ListPlace} (λ s. OrNoMemory (GivesChanges since s)) (kept_of handle.old)
+        ReadsInto {B = ListPlace} (λ s. OrNoMemory (GivesChanges since s)) (handle_value handle.old)
         (list_place list.old texts.old counts.old)
         outcome (list_place list.new texts.new counts.new)) }
-    ensures same { kept_of handle.new ≡ kept_of handle.old }
+    ensures same { handle_value handle.new ≡ handle_value handle.old }
 {
     let outcome = match handle.take(alloc) {
         Some(kept) => {

@@ -1,7 +1,7 @@
 //! What lines of lists show: their visible cells at once.
 ghost use Rattle.std.specs.Prelude.{◌≡◌, Some};
 ghost use Rattle.termwiz_surface.specs.{visible};
-ghost use Rattle.tikeburo_c.specs.Handles.{kept_of};
+ghost use Rattle.tikeburo_c.specs.Handles.{handle_value};
 ghost use Rattle.tikeburo_c.specs.LineLists.{GivesLine};
 ghost use Rattle.tikeburo_c.specs.Outcomes.{Reports};
 ghost use Rattle.tikeburo_c.specs.Results.{OrNoMemory, ReadsLines};
@@ -80,10 +80,10 @@ pub extern "C" fn tk_line_cells(
     counts: &mut RowCounts,
 ) -> i32
     ensures read { Reports result (λ outcome.
-        ReadsLines {B = RowPlace} (GivesLine index) (kept_of handle.old)
+        ReadsLines {B = RowPlace} (GivesLine index) (handle_value handle.old)
         (rows.row_place cells.old attributes.old text.old counts.old)
         outcome (rows.row_place cells.new attributes.new text.new counts.new)) }
-    ensures same { kept_of handle.new ≡ kept_of handle.old }
+    ensures same { handle_value handle.new ≡ handle_value handle.old }
 {
     let outcome = match handle.take(alloc) {
         Some(kept) => {

@@ -2,7 +2,7 @@
 ghost use Rattle.std.specs.Prelude.{◌≡◌, IfOk, Some, map};
 ghost use Rattle.termwiz_cell.specs.ChangeValue.{change_value};
 ghost use Rattle.termwiz_screen.specs.Diff.{restoring};
-ghost use Rattle.tikeburo_c.specs.Handles.{kept_of};
+ghost use Rattle.tikeburo_c.specs.Handles.{handle_value};
 ghost use Rattle.tikeburo_c.specs.LineDrawing.{DrawsFrom, DrawsLine, DrawsOne, IsDrawing};
 ghost use Rattle.tikeburo_c.specs.Outcomes.{Reports};
 
@@ -95,7 +95,7 @@ fn draw_kept(
     index: usize,
 ) -> Result<(), Failure>
     ensures { DrawsFrom (Some lines.now) row index
-        (kept_of handle.old) result (kept_of handle.new) }
+        (handle_value handle.old) result (handle_value handle.new) }
 {
     let list = lines.lines()?;
     on_surface(alloc, handle, |surface| {
@@ -112,9 +112,9 @@ pub extern "C" fn tk_draw_line_distinct(
     lines: &mut Handle,
     index: usize,
 ) -> i32
-    ensures draws { Reports result (λ outcome. DrawsFrom (kept_of lines.old) row index
-        (kept_of handle.old) outcome (kept_of handle.new)) }
-    ensures lines { kept_of lines.new ≡ kept_of lines.old }
+    ensures draws { Reports result (λ outcome. DrawsFrom (handle_value lines.old) row index
+        (handle_value handle.old) outcome (handle_value handle.new)) }
+    ensures lines { handle_value lines.new ≡ handle_value lines.old }
 {
     let outcome = match lines.take(alloc) {
         Some(kept) => {

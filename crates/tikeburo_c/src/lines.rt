@@ -1,6 +1,6 @@
 //! Lists of lines: how they are made, grow and shrink.
 ghost use Rattle.std.specs.Prelude.{◌≡◌, Some, length};
-ghost use Rattle.tikeburo_c.specs.Handles.{kept_of};
+ghost use Rattle.tikeburo_c.specs.Handles.{handle_value};
 ghost use Rattle.tikeburo_c.specs.LineLists.{Compresses, MakesLines, Pushes, PushesFrom, Removes};
 ghost use Rattle.tikeburo_c.specs.LineLists.{Wraps};
 ghost use Rattle.tikeburo_c.specs.Outcomes.{Reports};
@@ -17,7 +17,7 @@ use std::alloc::Global;
 use termwiz_surface::Surface;
 
 fn make_lines(alloc: Global, handle: &mut Handle) -> Result<(), Failure>
-    ensures { MakesLines (kept_of handle.old) result (kept_of handle.new) }
+    ensures { MakesLines (handle_value handle.old) result (handle_value handle.new) }
 {
     let kept = Box::new(alloc, Kept::Lines(LineList::new(alloc)))?;
     handle.put(alloc, kept);
@@ -28,7 +28,7 @@ fn make_lines(alloc: Global, handle: &mut Handle) -> Result<(), Failure>
 #[unsafe(no_mangle)]
 pub extern "C" fn tk_lines_new(alloc: Global, handle: &mut Handle) -> i32
     ensures { Reports result (λ outcome.
-        MakesLines (kept_of handle.old) outcome (kept_of handle.new)) }
+        MakesLines (handle_value handle.old) outcome (handle_value handle.new)) }
 {
     let outcome = make_lines(alloc, handle);
     status(outcome)
@@ -47,8 +47,8 @@ fn read_count(kept: &Kept, count: &mut usize) -> Result<(), Failure>
 #[unsafe(no_mangle)]
 pub extern "C" fn tk_lines_count(alloc: Global, handle: &mut Handle, count: &mut usize) -> i32
     ensures read { Reports result (λ outcome. ReadsLines (λ lines. Returns (length lines))
-        (kept_of handle.old) count.old outcome count.new) }
-    ensures same { kept_of handle.new ≡ kept_of handle.old }
+        (handle_value handle.old) count.old outcome count.new) }
+    ensures same { handle_value handle.new ≡ handle_value handle.old }
 {
     let outcome = match handle.take(alloc) {
         Some(kept) => {
@@ -70,7 +70,7 @@ pub extern "C" fn tk_lines_remove(
     count: usize,
 ) -> i32
     ensures { Reports result (λ outcome.
-        OnLines (Removes first count) (kept_of handle.old) outcome (kept_of handle.new)) }
+        OnLines (Removes first count) (handle_value handle.old) outcome (handle_value handle.new)) }
 {
     let outcome = on_lines(alloc, handle, |list| list.remove(first, count));
     status(outcome)
@@ -93,7 +93,8 @@ fn push_shown(
     shown: &Surface<ChosenWidths<'static>>,
     row: usize,
 ) -> Result<(), Failure>
-    ensures { OnLines (Pushes row shown.now) (kept_of handle.old) result (kept_of handle.new) }
+    ensures { OnLines (Pushes row shown.now)
+        (handle_value handle.old) result (handle_value handle.new) }
 {
     let Some(mut kept) = handle.take(alloc) else {
         return Err(Failure::NoHandle);
@@ -107,7 +108,8 @@ fn push_shown(
 }
 
 fn push_kept(alloc: Global, handle: &mut Handle, source: &Kept, row: usize) -> Result<(), Failure>
-    ensures { PushesFrom (Some source.now) row (kept_of handle.old) result (kept_of handle.new) }
+    ensures { PushesFrom (Some source.now) row
+        (handle_value handle.old) result (handle_value handle.new) }
 {
     let shown = source.shown()?;
     push_shown(alloc, handle, shown, row)
@@ -121,9 +123,9 @@ pub extern "C" fn tk_lines_push_row_distinct(
     source: &mut Handle,
     row: usize,
 ) -> i32
-    ensures pushes { Reports result (λ outcome. PushesFrom (kept_of source.old) row
-        (kept_of handle.old) outcome (kept_of handle.new)) }
-    ensures source { kept_of source.new ≡ kept_of source.old }
+    ensures pushes { Reports result (λ outcome. PushesFrom (handle_value source.old) row
+        (handle_value handle.old) outcome (handle_value handle.new)) }
+    ensures source { handle_value source.new ≡ handle_value source.old }
 {
     let outcome = match source.take(alloc) {
         Some(kept) => {
@@ -145,7 +147,8 @@ pub extern "C" fn tk_lines_compress(
     count: usize,
 ) -> i32
     ensures { Reports result (λ outcome.
-        OnLines (Compresses first count) (kept_of handle.old) outcome (kept_of handle.new)) }
+        OnLines (Compresses first count)
+        (handle_value handle.old) outcome (handle_value handle.new)) }
 {
     let outcome = on_lines(alloc, handle, |list| list.compress(first, count));
     status(outcome)
@@ -155,7 +158,7 @@ pub extern "C" fn tk_lines_compress(
 #[unsafe(no_mangle)]
 pub extern "C" fn tk_lines_wrap(alloc: Global, handle: &mut Handle, width: usize) -> i32
     ensures { Reports result (λ outcome.
-        OnLines (Wraps width) (kept_of handle.old) outcome (kept_of handle.new)) }
+        OnLines (Wraps width) (handle_value handle.old) outcome (handle_value handle.new)) }
 {
     let outcome = on_lines(alloc, handle, |list| list.wrap(alloc, width));
     status(outcome)

@@ -60,9 +60,9 @@ pub(crate) enum Kind {
 }
 
 pub(crate) fn kind_in(number: u8) -> Result<Kind, Failure>
-    ensures found { IfOk result (λ kind. listed.kind_in number ≡ Some kind) }
+    ensures found { IfOk result (λ kind. listed.change_kind_in number ≡ Some kind) }
     ensures missing { IfErr result (λ failure.
-        (failure ≡ Range) × (listed.kind_in number ≡ None)) }
+        (failure ≡ Range) × (listed.change_kind_in number ≡ None)) }
 {
     match number {
         0 => Ok(Kind::Text),
@@ -106,8 +106,8 @@ pub(crate) fn text_len(kind: Kind, fields: &ChangeFields) -> usize
 /// The text that these bytes are.
 #[tactic(auto, using(crate::proofs::Listed::text_read, crate::proofs::Listed::no_text))]
 pub(crate) fn text_in(bytes: &[u8]) -> Result<&str, Failure>
-    ensures found { IfOk result (λ text. listed.text_in bytes.now ≡ Ok text.now) }
-    ensures missing { IfErr result (λ failure. listed.text_in bytes.now ≡ Err failure) }
+    ensures found { IfOk result (λ text. listed.readable_text bytes.now ≡ Ok text.now) }
+    ensures missing { IfErr result (λ failure. listed.readable_text bytes.now ≡ Err failure) }
 {
     match str::from_utf8(bytes) {
         Ok(text) => Ok(text),
@@ -336,10 +336,10 @@ fn push_first<'a>(
     changes: &mut Vec<Change>,
 ) -> Result<&'a [u8], Failure>
     ensures found { IfOk result (λ others. (made : Change)
-        × (listed.first_in fields.now texts.now ≡ Ok (change_value made, others.now))
+        × (listed.first_change_in fields.now texts.now ≡ Ok (change_value made, others.now))
         × (changes.new.items ≡ changes.old.items ++ made ∷ [])) }
     ensures missing { IfErr result (λ failure. (failure ≡ Memory)
-        ⊎ (listed.first_in fields.now texts.now ≡ Err failure)) }
+        ⊎ (listed.first_change_in fields.now texts.now ≡ Err failure)) }
 {
     let kind = kind_in(fields.kind)?;
     let len = text_len(kind, fields);

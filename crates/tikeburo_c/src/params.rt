@@ -1,7 +1,7 @@
 //! The params of links, one by one.
 ghost use Rattle.std.specs.Prelude.{◌≡◌, Some, option_map, slice_get};
 ghost use Rattle.tikeburo_c.specs.Cells.{cell_in};
-ghost use Rattle.tikeburo_c.specs.Handles.{kept_of};
+ghost use Rattle.tikeburo_c.specs.Handles.{handle_value};
 ghost use Rattle.tikeburo_c.specs.Outcomes.{Reports};
 ghost use Rattle.tikeburo_c.specs.Params as params;
 ghost use Rattle.tikeburo_c.specs.Params.{GivesBoth, GivesCellParam, GivesParam, ParamPlace};
@@ -25,7 +25,7 @@ fn param_in(link: &Hyperlink, index: usize) -> Option<(&str, &str)>
 
 // The param at this index of the attributes' link, if there is one.
 fn param_at(attrs: &CellAttributes, index: usize) -> Option<(&str, &str)>
-    ensures { option_map lent_param result ≡ params.param_at index attrs.now.hyperlink }
+    ensures { option_map lent_param result ≡ params.link_param_at index attrs.now.hyperlink }
 {
     match attrs.hyperlink() {
         Some(link) => param_in(link, index),
@@ -63,7 +63,7 @@ fn give_param(
     value: &mut [u8],
     value_len: &mut usize,
 ) -> Result<(), Failure>
-    ensures { GivesParam (params.param_at index attrs.now.hyperlink)
+    ensures { GivesParam (params.link_param_at index attrs.now.hyperlink)
         ((key.old, key_len.old), (value.old, value_len.old)) result
         ((key.new, key_len.new), (value.new, value_len.new)) }
 {
@@ -83,7 +83,8 @@ fn give_pen_param(
     value: &mut [u8],
     value_len: &mut usize,
 ) -> Result<(), Failure>
-    ensures { ReadsInto {B = ParamPlace} (λ s. GivesParam (params.param_at index s.pen.hyperlink))
+    ensures { ReadsInto {B = ParamPlace}
+        (λ s. GivesParam (params.link_param_at index s.pen.hyperlink))
         (Some kept.now) ((key.old, key_len.old), (value.old, value_len.old)) result
         ((key.new, key_len.new), (value.new, value_len.new)) }
 {
@@ -103,10 +104,10 @@ pub extern "C" fn tk_pen_link_param(
     value_len: &mut usize,
 ) -> i32
     ensures read { Reports result (λ outcome.
-        ReadsInto {B = ParamPlace} (λ s. GivesParam (params.param_at index s.pen.hyperlink))
-        (kept_of handle.old) ((key.old, key_len.old), (value.old, value_len.old))
+        ReadsInto {B = ParamPlace} (λ s. GivesParam (params.link_param_at index s.pen.hyperlink))
+        (handle_value handle.old) ((key.old, key_len.old), (value.old, value_len.old))
         outcome ((key.new, key_len.new), (value.new, value_len.new))) }
-    ensures same { kept_of handle.new ≡ kept_of handle.old }
+    ensures same { handle_value handle.new ≡ handle_value handle.old }
 {
     let outcome = match handle.take(alloc) {
         Some(kept) => {
@@ -154,9 +155,9 @@ pub extern "C" fn tk_link_param_at(
 ) -> i32
     ensures read { Reports result (λ outcome.
         ReadsInto {B = ParamPlace} (λ s. GivesCellParam index (cell_in column row s))
-        (kept_of handle.old) ((key.old, key_len.old), (value.old, value_len.old))
+        (handle_value handle.old) ((key.old, key_len.old), (value.old, value_len.old))
         outcome ((key.new, key_len.new), (value.new, value_len.new))) }
-    ensures same { kept_of handle.new ≡ kept_of handle.old }
+    ensures same { handle_value handle.new ≡ handle_value handle.old }
 {
     let outcome = match handle.take(alloc) {
         Some(kept) => {

@@ -1,9 +1,11 @@
 //! What a surface, a viewer or a client shows.
 ghost use Rattle.std.specs.Prelude.{◌≡◌, ℕ};
 ghost use Rattle.termwiz_screen.specs.Log.{next_number};
-ghost use Rattle.tikeburo_c.specs.Handles.{kept_of};
+ghost use Rattle.termwiz_wire.specs.Decoding.{visibility_of};
+ghost use Rattle.termwiz_wire.specs.Encoding.{is_visible};
+ghost use Rattle.tikeburo_c.specs.Handles.{handle_value};
 ghost use Rattle.tikeburo_c.specs.Outcomes.{Reports};
-ghost use Rattle.tikeburo_c.specs.Reading.{ReadsValue, is_visible, text_of, visibility_of};
+ghost use Rattle.tikeburo_c.specs.Reading.{ReadsValue, text_of};
 ghost use Rattle.tikeburo_c.specs.Results.{GivesInto, OrNoMemory, ReadsInto};
 
 use crate::access::{fill, read};
@@ -24,7 +26,7 @@ pub extern "C" fn tk_size(
 ) -> i32
     ensures read { ReadsValue {B = ℕ × ℕ} (λ s. (s.width, s.height))
         handle.old (width.old, height.old) result (width.new, height.new) }
-    ensures same { kept_of handle.new ≡ kept_of handle.old }
+    ensures same { handle_value handle.new ≡ handle_value handle.old }
 {
     let mut size = (*width, *height);
     let outcome = read(alloc, handle, &mut size, |surface| surface.dimensions());
@@ -42,7 +44,7 @@ pub extern "C" fn tk_cursor(
 ) -> i32
     ensures read { ReadsValue {B = ℕ × ℕ} (λ s. (s.x, s.y))
         handle.old (column.old, row.old) result (column.new, row.new) }
-    ensures same { kept_of handle.new ≡ kept_of handle.old }
+    ensures same { handle_value handle.new ≡ handle_value handle.old }
 {
     let mut at = (*column, *row);
     let outcome = read(alloc, handle, &mut at, |surface| surface.cursor_position());
@@ -59,7 +61,7 @@ pub extern "C" fn tk_cursor_is_visible(
 ) -> i32
     ensures read { ReadsValue (λ s. is_visible s.visibility)
         handle.old visible.old result visible.new }
-    ensures same { kept_of handle.new ≡ kept_of handle.old }
+    ensures same { handle_value handle.new ≡ handle_value handle.old }
 {
     let outcome = read(alloc, handle, visible, |surface| {
         is_visible(surface.cursor_visibility())
@@ -91,7 +93,7 @@ pub(crate) fn visibility_of(is_visible: bool) -> CursorVisibility
 #[unsafe(no_mangle)]
 pub extern "C" fn tk_number(alloc: Global, handle: &mut Handle, number: &mut usize) -> i32
     ensures read { ReadsValue (λ s. next_number s.log) handle.old number.old result number.new }
-    ensures same { kept_of handle.new ≡ kept_of handle.old }
+    ensures same { handle_value handle.new ≡ handle_value handle.old }
 {
     let outcome = read(alloc, handle, number, |surface| surface.current_seqno());
     status(outcome)
@@ -106,8 +108,8 @@ pub extern "C" fn tk_title(
     len: &mut usize,
 ) -> i32
     ensures read { Reports result (λ outcome. ReadsInto (λ s. GivesInto s.title)
-        (kept_of handle.old) (room.old, len.old) outcome (room.new, len.new)) }
-    ensures same { kept_of handle.new ≡ kept_of handle.old }
+        (handle_value handle.old) (room.old, len.old) outcome (room.new, len.new)) }
+    ensures same { handle_value handle.new ≡ handle_value handle.old }
 {
     let outcome = fill(alloc, handle, room, len, |surface, room, len| {
         give(surface.title().as_bytes(), room, len)
@@ -137,8 +139,8 @@ pub extern "C" fn tk_screen_text(
     len: &mut usize,
 ) -> i32
     ensures read { Reports result (λ outcome. ReadsInto (λ s. OrNoMemory (GivesInto (text_of s)))
-        (kept_of handle.old) (room.old, len.old) outcome (room.new, len.new)) }
-    ensures same { kept_of handle.new ≡ kept_of handle.old }
+        (handle_value handle.old) (room.old, len.old) outcome (room.new, len.new)) }
+    ensures same { handle_value handle.new ≡ handle_value handle.old }
 {
     let outcome = fill(alloc, handle, room, len, |surface, room, len| {
         give_text(surface, room, len)

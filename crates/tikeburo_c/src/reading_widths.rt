@@ -1,6 +1,6 @@
 //! By which widths a surface measures, or what a viewer or a client shows.
 ghost use Rattle.std.specs.Prelude.{◌≡◌, Some};
-ghost use Rattle.tikeburo_c.specs.Handles.{kept_of};
+ghost use Rattle.tikeburo_c.specs.Handles.{handle_value};
 ghost use Rattle.tikeburo_c.specs.Outcomes.{Reports};
 ghost use Rattle.tikeburo_c.specs.ReadingWidths.{GivesWidths, WidthsPlace, widths_place};
 ghost use Rattle.tikeburo_c.specs.Results.{ReadsInto};
@@ -56,10 +56,10 @@ pub extern "C" fn tk_widths(
     count: &mut usize,
 ) -> i32
     ensures read { Reports result (λ outcome.
-        ReadsInto {B = WidthsPlace} (λ s. GivesWidths s.widths) (kept_of handle.old)
+        ReadsInto {B = WidthsPlace} (λ s. GivesWidths s.widths) (handle_value handle.old)
         (widths_place kind.old ranges.old count.old)
         outcome (widths_place kind.new ranges.new count.new)) }
-    ensures same { kept_of handle.new ≡ kept_of handle.old }
+    ensures same { handle_value handle.new ≡ handle_value handle.old }
 {
     let outcome = match handle.take(alloc) {
         Some(kept) => {

@@ -4,7 +4,7 @@ ghost use Rattle.std.specs.Prelude.{slice_get};
 ghost use Rattle.termwiz_line.specs.Row.{row_of, visible_upto};
 ghost use Rattle.termwiz_screen.specs.{IsPaddable};
 ghost use Rattle.termwiz_surface.specs.{visible};
-ghost use Rattle.tikeburo_c.specs.Handles.{kept_of};
+ghost use Rattle.tikeburo_c.specs.Handles.{handle_value};
 ghost use Rattle.tikeburo_c.specs.Outcomes.{Reports};
 ghost use Rattle.tikeburo_c.specs.Results.{OrNoMemory, ReadsInto};
 ghost use Rattle.tikeburo_c.specs.Rows as rows;
@@ -198,10 +198,10 @@ pub extern "C" fn tk_row_cells(
     counts: &mut RowCounts,
 ) -> i32
     ensures read { Reports result (λ outcome.
-        ReadsInto {B = RowPlace} (GivesCells row) (kept_of handle.old)
+        ReadsInto {B = RowPlace} (GivesCells row) (handle_value handle.old)
         (rows.row_place cells.old attributes.old text.old counts.old)
         outcome (rows.row_place cells.new attributes.new text.new counts.new)) }
-    ensures same { kept_of handle.new ≡ kept_of handle.old }
+    ensures same { handle_value handle.new ≡ handle_value handle.old }
 {
     let outcome = match handle.take(alloc) {
         Some(kept) => {
@@ -227,10 +227,10 @@ pub extern "C" fn tk_shown_cells(
     counts: &mut RowCounts,
 ) -> i32
     ensures read { Reports result (λ outcome.
-        ReadsInto {B = RowPlace} (GivesShown row) (kept_of handle.old)
+        ReadsInto {B = RowPlace} (GivesShown row) (handle_value handle.old)
         (rows.row_place cells.old attributes.old text.old counts.old)
         outcome (rows.row_place cells.new attributes.new text.new counts.new)) }
-    ensures same { kept_of handle.new ≡ kept_of handle.old }
+    ensures same { handle_value handle.new ≡ handle_value handle.old }
 {
     let outcome = match handle.take(alloc) {
         Some(kept) => {

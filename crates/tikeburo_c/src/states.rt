@@ -1,7 +1,7 @@
 //! What is set beside the rows.
 ghost use Rattle.std.specs.Prelude.{◌≡◌, Some};
 ghost use Rattle.tikeburo_c.specs.Cells.{uri_of};
-ghost use Rattle.tikeburo_c.specs.Handles.{kept_of};
+ghost use Rattle.tikeburo_c.specs.Handles.{handle_value};
 ghost use Rattle.tikeburo_c.specs.Outcomes.{Reports};
 ghost use Rattle.tikeburo_c.specs.Results.{GivesInto, ReadsInto};
 ghost use Rattle.tikeburo_c.specs.States as specs_of;
@@ -59,8 +59,8 @@ fn read_state(kept: &Kept, state: &mut StateFields) -> Result<(), Failure>
 #[unsafe(no_mangle)]
 pub extern "C" fn tk_state(alloc: Global, handle: &mut Handle, state: &mut StateFields) -> i32
     ensures read { Reports result (λ outcome. ReadsKept specs_of.state_fields
-        (kept_of handle.old) state.old outcome state.new) }
-    ensures same { kept_of handle.new ≡ kept_of handle.old }
+        (handle_value handle.old) state.old outcome state.new) }
+    ensures same { handle_value handle.new ≡ handle_value handle.old }
 {
     let outcome = match handle.take(alloc) {
         Some(kept) => {
@@ -82,8 +82,8 @@ pub extern "C" fn tk_pen_link(
     len: &mut usize,
 ) -> i32
     ensures read { Reports result (λ outcome. ReadsInto (λ s. GivesInto (uri_of s.pen.hyperlink))
-        (kept_of handle.old) (room.old, len.old) outcome (room.new, len.new)) }
-    ensures same { kept_of handle.new ≡ kept_of handle.old }
+        (handle_value handle.old) (room.old, len.old) outcome (room.new, len.new)) }
+    ensures same { handle_value handle.new ≡ handle_value handle.old }
 {
     let outcome = fill(alloc, handle, room, len, |surface, room, len| {
         give(uri_of(surface.pen()).as_bytes(), room, len)

@@ -1,7 +1,7 @@
 //! Surfaces: how they are made, resized and freed.
 ghost use Rattle.std.specs.Prelude.{◌≡◌, IfErr, IfOk, IsTrue, None, ◌<◌};
 ghost use Rattle.termwiz_surface.specs.Surface.{IsSurfaceSize};
-ghost use Rattle.tikeburo_c.specs.Handles.{kept_of};
+ghost use Rattle.tikeburo_c.specs.Handles.{handle_value};
 ghost use Rattle.tikeburo_c.specs.Making.{MakesSurface, MakesSurfaceBy, ResizesIn, TakesSize};
 ghost use Rattle.tikeburo_c.specs.Making.{blank_source, is_size, widths_for, widths_where};
 ghost use Rattle.tikeburo_c.specs.Outcomes.{Reports};
@@ -53,7 +53,7 @@ fn make_surface(
     source: usize,
 ) -> Result<(), Failure>
     ensures { MakesSurface width height source (widths_where width height source widths.entry)
-        (kept_of handle.old) result (kept_of handle.new) }
+        (handle_value handle.old) result (handle_value handle.new) }
 {
     if source == 0 || !is_size(width, height) {
         return Err(Failure::Range);
@@ -78,7 +78,7 @@ pub extern "C" fn tk_surface_new(
 ) -> i32
     ensures { Reports result (λ outcome. MakesSurface width height source
         (widths_for width height source widths)
-        (kept_of handle.old) outcome (kept_of handle.new)) }
+        (handle_value handle.old) outcome (handle_value handle.new)) }
 {
     let widths = ChosenWidths::at(widths);
     let outcome = make_surface(alloc, handle, width, height, widths, source);
@@ -97,7 +97,7 @@ pub extern "C" fn tk_surface_new_by(
     source: usize,
 ) -> i32
     ensures { Reports result (λ outcome. MakesSurfaceBy width height source ranges.entry
-        (kept_of handle.old) outcome (kept_of handle.new)) }
+        (handle_value handle.old) outcome (handle_value handle.new)) }
 {
     let widths = ChosenWidths::by(ranges);
     let outcome = make_surface(alloc, handle, width, height, widths, source);
@@ -107,7 +107,7 @@ pub extern "C" fn tk_surface_new_by(
 /// Frees what the handle has, if it has anything.
 #[unsafe(no_mangle)]
 pub extern "C" fn tk_free_handle(alloc: Global, handle: &mut Handle)
-    ensures { kept_of handle.new ≡ None }
+    ensures { handle_value handle.new ≡ None }
 {
     drop(handle.take(alloc));
 }
@@ -125,7 +125,7 @@ fn resize_one(
 }
 
 fn resize(alloc: Global, handle: &mut Handle, width: usize, height: usize) -> Result<(), Failure>
-    ensures { ResizesIn width height (kept_of handle.old) result (kept_of handle.new) }
+    ensures { ResizesIn width height (handle_value handle.old) result (handle_value handle.new) }
 {
     if !is_size(width, height) {
         return Err(Failure::Range);
@@ -137,7 +137,7 @@ fn resize(alloc: Global, handle: &mut Handle, width: usize, height: usize) -> Re
 #[unsafe(no_mangle)]
 pub extern "C" fn tk_resize(alloc: Global, handle: &mut Handle, width: usize, height: usize) -> i32
     ensures { Reports result (λ outcome.
-        ResizesIn width height (kept_of handle.old) outcome (kept_of handle.new)) }
+        ResizesIn width height (handle_value handle.old) outcome (handle_value handle.new)) }
 {
     let outcome = resize(alloc, handle, width, height);
     status(outcome)

@@ -39,9 +39,9 @@ fn first_lent_in<'a>(
     texts: &'a [u8],
 ) -> Result<(LentChange<'a>, &'a [u8]), Failure>
     ensures found { IfOk result (λ x.
-        listed.first_in fields.now texts.now ≡ Ok (lent_value x.0, x.1.now)) }
+        listed.first_change_in fields.now texts.now ≡ Ok (lent_value x.0, x.1.now)) }
     ensures missing { IfErr result (λ failure. (failure ≡ Memory)
-        ⊎ (listed.first_in fields.now texts.now ≡ Err failure)) }
+        ⊎ (listed.first_change_in fields.now texts.now ≡ Err failure)) }
 {
     let kind = kind_in(fields.kind)?;
     let len = text_len(kind, fields);

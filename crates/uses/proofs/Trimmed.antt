@@ -5,7 +5,7 @@ use Rattle.termwiz_screen.specs.Log.{LogValue, delta_limit, due, flushed, next_n
 use Rattle.termwiz_screen.proofs.Logs.{reached}
 use Rattle.termwiz_surface.specs.{SurfaceValue, with_log}
 use Rattle.termwiz_surface.specs.Asking.{forgotten}
-use Rattle.termwiz_share.specs.{SourceValue, trimmed}
+use Rattle.termwiz_share.specs.{SourceValue, trimmed_surface}
 
 module _ (l : LogValue) (n : ℕ) where
   next_flushed : next_number (flushed l n) ≡ next_number l
@@ -27,13 +27,13 @@ forgotten_again most l =
     ap (λ (n : ℕ). flushed (forgotten most l) (n - most)) (next_flushed l (next_number l - most))
     ∙ flushed_again l (next_number l - most)
 
-trimmed_again : {W : Type 0} (s : SurfaceValue W) → trimmed (trimmed s) ≡ trimmed s
+trimmed_again : {W : Type 0} (s : SurfaceValue W) → trimmed_surface (trimmed_surface s) ≡ trimmed_surface s
 trimmed_again s = ap (with_log s) (forgotten_again (delta_limit s.width s.height) s.log)
 
 -- so a source that answers a second time is as it was
-pub answered_again : {W : Type 0} (s t u : SourceValue W) → t ≡ record s { surface = trimmed s.surface } → u ≡ record t { surface = trimmed t.surface } → u ≡ t
+pub answered_again : {W : Type 0} (s t u : SourceValue W) → t ≡ record s { surface = trimmed_surface s.surface } → u ≡ record t { surface = trimmed_surface t.surface } → u ≡ t
 answered_again s t u first second =
-    second ∙ subst (λ (x : SourceValue _). record x { surface = trimmed x.surface } ≡ x) (sym first) (λ i. record { surface = trimmed_again s.surface i; number = s.number })
+    second ∙ subst (λ (x : SourceValue _). record x { surface = trimmed_surface x.surface } ≡ x) (sym first) (λ i. record { surface = trimmed_again s.surface i; number = s.number })
 
 -- bytes at the front of a buffer
 pub front : (bytes behind rest : List ℕ) (room : ℕ) → length bytes ≤ room → take (length bytes) (take room ((bytes ++ behind) ++ rest)) ≡ bytes

@@ -11,7 +11,7 @@ use Rattle.termwiz_surface.specs.{ChangeValue, FullScreen, IsPastOf, KeepsNames,
 use Rattle.termwiz_wire.specs.Sent.{answer}
 use Rattle.termwiz_wire.specs.declared.fault.Limits.{Limits}
 use Rattle.termwiz_wire.specs.declared.sent.Ask.{Ask}
-use Rattle.uses.specs.Streams.{FailsToAnswer, FailsToAnswerBoth, FeedsBoth, FeedsInTwo, IsStreamOfBoth, HasNoFault, ShowsLast, TakesBoth, blank_client, unlimited}
+use Rattle.uses.specs.Streams.{FailsToAnswer, FailsToAnswerBoth, FeedsBoth, FeedsInTwo, IsStreamOfBoth, HasNoFault, ShowsLast, TakesBoth, blank_client, greatest_limits}
 use Rattle.uses.specs.declared.serving.ShareError.{ShareError}
 use Rattle.uses.specs.declared.serving.ShareError.TheVariants.{Refused, Unserved}
 use Rattle.uses.proofs.Streams.{genuine_in, given_by}
@@ -160,7 +160,7 @@ module _ {W : Type 0} (f : W → List ℕ → ℕ) (first second later other : S
       (answers.number ∙ sym answers.same) (λ e. apart (sym answers.same ∙ e ∙ both.number))
       (ap f (sym answers.widths)) (ap f (sym answers.later_widths)) (one_measure ∙ ap f (sym both.widths))
       one.0 two.0 three.0 one.2 two.2 three.2 two.1
-      unlimited (omega arith) (omega arith) (omega (arith, few, takes.few, lengths.1)) (omega (arith, few, takes.few, lengths.0)) (omega (arith, few, takes.few, lengths.2))
+      greatest_limits (omega arith) (omega arith) (omega (arith, few, takes.few, lengths.1)) (omega (arith, few, takes.few, lengths.0)) (omega (arith, few, takes.few, lengths.2))
       refl refl refl refl refl
       takes.stream both.is r new takes.shows
 

@@ -19,7 +19,7 @@ pub mod Passing
 pub use Rattle.termwiz_surface.specs.{Adds, AddsScrolledOff, AddsUnlogged, All, Any, AreRows, CellValue, DoubleWidthLine, Follows, FollowsTo, FullScreen, HasDrawn, IsDiff, IsDrawn, IsLower, IsPastOf, IsSurfaceSize, IsUnchanged, IsUpper, IsWhole, IsWrapped, KeepsShowing, LineValue, MeasureAlike, Preserves, Print, PrintsRegion, PrintsWithin, Screen, ShowsNamed, SingleWidthLine, SurfaceValue, ViewerValue, appended, blank_surface, blank_viewer, cells_of, change_value, default_attributes, flushed, full_of, full_screens, full_value, is_known, kept_of, line_contents, line_eq, measure, need, next_number, no_flags, number_at, own_repaint, passed, print_all, printed, region_at, row_at, row_of, rows_scrolled_off, screen_after, screen_of, screens, shown_at, stored, stored_text, texts_of, visible, whole, whole_at, with_sizes}
 pub use Rattle.termwiz_surface.specs.declared.surface.SurfaceError.TheVariants.{ScrollRegion}
 pub use Rattle.termwiz_share.specs.Serving.{KeepsClients}
-pub use Rattle.termwiz_share.specs.{IsReady, IsResponse, PreservesServing, Serves, SourceValue, ask_of, trimmed}
+pub use Rattle.termwiz_share.specs.{IsReady, IsResponse, PreservesServing, Serves, SourceValue, ask_of, trimmed_surface}
 pub use Rattle.uses.specs.Serving.{ServesAll, ServesOnce, Shares, AllShowSource, Stands, TakesResponse}
 pub use Rattle.uses.specs.Turns.{InTurn}
 pub use Rattle.uses.specs.Making.{MakesOrRefuses, AddsEach, MakesOrFails, DrawsOn, MayRefuse, full_after}

@@ -1,7 +1,7 @@
 -- A screen that three clients show, and the changes that are made on it.
 use Rattle.std.specs.Prelude.{◌≡◌, ◌⊎◌, ℕ, List, [], ◌∷◌, ◌++◌, None, Result, Ok, Err}
 use Rattle.std.specs.Result.{result_and}
-use Rattle.termwiz_share.specs.{ClientValue, Feeds, IsReady, IsResponse, Serves, SourceValue, ask_of, trimmed}
+use Rattle.termwiz_share.specs.{ClientValue, Feeds, IsReady, IsResponse, Serves, SourceValue, ask_of, trimmed_surface}
 use Rattle.termwiz_share.specs.declared.error.ClientError.{ClientError}
 use Rattle.termwiz_share.specs.declared.error.ClientError.TheVariants as client
 use Rattle.termwiz_surface.specs.{Adds, ChangeValue, FullScreen, full_of, next_number}
@@ -91,8 +91,8 @@ module _ {W : Type 0} (measure_of : W → List ℕ → ℕ) where
     pub mid : SourceValue W
     pub has_made : HasMade measure_of old.surface made mid.surface
     pub refuses :
-        Adds (measure_of mid.surface.widths) (trimmed mid.surface) (refused ∷ [])
-        (next_number (trimmed mid.surface).log) (Err error) new.surface
+        Adds (measure_of mid.surface.widths) (trimmed_surface mid.surface) (refused ∷ [])
+        (next_number (trimmed_surface mid.surface).log) (Err error) new.surface
 
   -- the changes are made, and then each client is served
   pub record SharesAll (old : RoomValue W) (changes : List ChangeValue)

@@ -42,8 +42,8 @@ module _ {W : Type 0} (measure_of : W → List ℕ → ℕ) (old : ClientValue W
       Feeds measure_of old (take cut stream) (Err e) new ⊎ FeedsBehind (Err e) new
 
 -- no limits
-abbrev pub unlimited : Limits
-unlimited = record { cells = 2 ^ 64 - 1; rows = 2 ^ 64 - 1; bytes = 2 ^ 64 - 1 }
+abbrev pub greatest_limits : Limits
+greatest_limits = record { cells = 2 ^ 64 - 1; rows = 2 ^ 64 - 1; bytes = 2 ^ 64 - 1 }
 
 -- a client that has no limits, and was fed nothing
 abbrev pub blank_client : {W : Type 0} → W → ClientValue W
@@ -52,7 +52,7 @@ blank_client widths = record {
   source = 0;
   number = 0;
   kept = [];
-  limits = unlimited;
+  limits = greatest_limits;
   stopped = None;
 }
 

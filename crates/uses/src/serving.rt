@@ -6,7 +6,7 @@ ghost use Rattle.uses.specs.{AllShowSource, MayRefuse, Serves, ServesAll, Serves
 ghost use Rattle.uses.specs.{Stands};
 ghost use Rattle.uses.specs.{blank_surface, change_value, full_after, full_of, measure};
 ghost use Rattle.uses.specs.{PreservesServing, SourceValue, TakesResponse, ask_of};
-ghost use Rattle.uses.specs.{next_number, trimmed};
+ghost use Rattle.uses.specs.{next_number, trimmed_surface};
 
 use std::alloc::{AllocError, Global};
 use std::marker::Model;
@@ -133,8 +133,9 @@ impl<W: Widths> Room<W> {
     /// Makes one change on the screen, as `Source::add_change` does. The clients stay as they are.
     pub fn make(&mut self, change: Change) -> Result<SequenceNo, SurfaceError>
         ensures adds { Adds (measure W.width_of self.old.source.surface.widths)
-            (trimmed self.old.source.surface) (change_value change ∷ [])
-            (next_number (trimmed self.old.source.surface).log) result self.new.source.surface }
+            (trimmed_surface self.old.source.surface) (change_value change ∷ [])
+            (next_number (trimmed_surface self.old.source.surface).log)
+            result self.new.source.surface }
         // The change is made, or the screen stands as the error says.
         ensures shows { OnOk result (full_of self.new.source.surface
             ≡ full_after (measure W.width_of) self.old.source.surface (change_value change ∷ [])) }
@@ -188,8 +189,8 @@ pub(crate) fn make<W: Widths>(
     change: Change,
 ) -> Result<SequenceNo, SurfaceError>
     ensures adds { Adds (measure W.width_of source.old.surface.widths)
-        (trimmed source.old.surface) (change_value change ∷ [])
-        (next_number (trimmed source.old.surface).log) result source.new.surface }
+        (trimmed_surface source.old.surface) (change_value change ∷ [])
+        (next_number (trimmed_surface source.old.surface).log) result source.new.surface }
     ensures shows { OnOk result (full_of source.new.surface
         ≡ full_after (measure W.width_of) source.old.surface (change_value change ∷ [])) }
     ensures stands { IfErr result (λ error.
@@ -278,7 +279,7 @@ fn write_response<W: Widths>(
         IsResponse (measure W.width_of) source.new ask (take len buffer.new.items)) }
     ensures fits { IfOk result (λ len. len ≤ vec_len buffer.new) }
     ensures trims { (source.new ≡ source.old)
-        ⊎ (source.new ≡ record source.old { surface = trimmed source.old.surface }) }
+        ⊎ (source.new ≡ record source.old { surface = trimmed_surface source.old.surface }) }
     ensures preserves { PreservesServing (measure W.width_of) source.old source.new }
 {
     let len = source.respond_to(ask, buffer)?;
@@ -298,7 +299,7 @@ pub(crate) fn response<W: Widths>(
     ensures response { IfOk result (λ bytes.
         IsResponse (measure W.width_of) source.new ask bytes.items) }
     ensures trims { OnOk result (
-        source.new ≡ record source.old { surface = trimmed source.old.surface }) }
+        source.new ≡ record source.old { surface = trimmed_surface source.old.surface }) }
     ensures kept { OnErr result (source.new ≡ source.old) }
     ensures same { full_of source.new.surface ≡ full_of source.old.surface }
     ensures widths { source.new.surface.widths ≡ source.old.surface.widths }

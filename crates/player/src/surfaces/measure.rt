@@ -23,11 +23,11 @@ pub const MEASURES: [(&str, Measure); 3] = [
 
 impl Widths for Measure {
     ghost use Rattle.std.specs.Prelude.{None};
-    ghost use Rattle.player.specs.Measured.{columns_by};
+    ghost use Rattle.player.specs.Measured.{columns_of_measure};
     ghost use Rattle.player.specs.MeasuredLaws.{measured-le, measured-space};
     ghost use Rattle.termwiz_cell.specs.declared.emoji.Presentation.TheVariants.{Text};
 
-    ghost width_of = { λ measure text _. columns_by measure text };
+    ghost width_of = { λ measure text _. columns_of_measure measure text };
 
     ghost presentation_of = { λ _ _. (Text, None) };
 
@@ -37,7 +37,7 @@ impl Widths for Measure {
 
     ghost space_has_one = { λ measure _. measured-space measure };
 
-    #[tactic(auto, unfolding(crate::specs::Measured::columns_by))]
+    #[tactic(auto, unfolding(crate::specs::Measured::columns_of_measure))]
     fn width(&self, text: &str, _version: Option<UnicodeVersion>) -> usize {
         match self {
             Measure::Unicode => UnicodeWidths.width(text, None),

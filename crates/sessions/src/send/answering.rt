@@ -4,7 +4,7 @@ ghost use Rattle.std.specs.Io.KnownBytes.{Appends};
 ghost use Rattle.termwiz_surface.specs.{IsSurfaceSize};
 ghost use Rattle.sessions.specs.Answering.{AnswersFirst, SendsLine, WritesAnswers};
 ghost use Rattle.sessions.specs.Requests.{IsRequestInRange, MaySay};
-ghost use Rattle.sessions.specs.Status.{status_of};
+ghost use Rattle.sessions.specs.Status.{exit_status};
 ghost use Rattle.sessions.specs.Writing.{AppendsSome};
 
 use crate::ending::SessionError;
@@ -32,7 +32,7 @@ pub(crate) fn answer_lines<B: BufRead + Drop, O: Write, E: Write>(
         (B.remaining input) (O.contents out.old) (O.contents out.new)) }
     ensures begun { AnswersFirst options.source options.width options.height
         (B.remaining input) (AppendsSome (O.contents out.old) (O.contents out.new)) }
-    ensures stopped { IfErr result (λ error. status_of error ≡ 2 →
+    ensures stopped { IfErr result (λ error. exit_status error ≡ 2 →
         AnswersFirst options.source options.width options.height
         (B.remaining input) (Appends (O.contents out.old) (O.contents out.new))) }
 {
@@ -73,7 +73,7 @@ fn answer_line<O: Write, E: Write>(
     ensures begun { (out.new ≡ out.old)
         ⊎ SendsLine line.now source.old last.old source.new last.new
         (AppendsSome (O.contents out.old) (O.contents out.new)) }
-    ensures stopped { IfErr result (λ error. status_of error ≡ 2 → out.new ≡ out.old) }
+    ensures stopped { IfErr result (λ error. exit_status error ≡ 2 → out.new ≡ out.old) }
 {
     match request(alloc, line, number)? {
         Some(request) => {

@@ -5,7 +5,8 @@ ghost use Rattle.sessions.specs.Answering.{AnswersRequest, Does};
 ghost use Rattle.sessions.specs.Frames.{IsChain};
 ghost use Rattle.sessions.specs.Requests.{IsRequestInRange};
 ghost use Rattle.sessions.specs.SendSteps.{HasNamed, SendsOn};
-ghost use Rattle.sessions.specs.Sending.{AreSent, Happens, IsAnswered, IsSendInRange, columns};
+ghost use Rattle.sessions.specs.Sending.{AreSent, Happens, IsAnswered, IsSendInRange};
+ghost use Rattle.sessions.specs.Sending.{unicode_measure};
 ghost use Rattle.termwiz_share.specs.Client.{Shown};
 ghost use Rattle.termwiz_share.specs.Histories.{Given};
 ghost use Rattle.termwiz_share.specs.Serving.{KeepsClients};
@@ -132,7 +133,7 @@ fn serve(
 // Adds a list of changes.
 fn added(source: &mut Source<UnicodeWidths>, changes: Vec<Change>) -> Outcome
     ensures happens { Happens source.old (SendEvent.Changes changes) result source.new }
-    ensures serves { KeepsClients columns source.old source.new }
+    ensures serves { KeepsClients unicode_measure source.old source.new }
 {
     match source.add_changes(changes) {
         Ok(number) => Outcome::Answered(number),
@@ -144,7 +145,7 @@ fn added(source: &mut Source<UnicodeWidths>, changes: Vec<Change>) -> Outcome
 fn resized(source: &mut Source<UnicodeWidths>, width: usize, height: usize) -> Outcome
     requires size { IsSurfaceSize width height }
     ensures happens { Happens source.old (SendEvent.Resize width height) result source.new }
-    ensures serves { KeepsClients columns source.old source.new }
+    ensures serves { KeepsClients unicode_measure source.old source.new }
 {
     match source.resize(width, height) {
         Ok(()) => Outcome::Done,
@@ -159,7 +160,7 @@ fn respond(
     ask: Ask,
 ) -> Result<Vec<u8>, AllocError>
     ensures answered { IfOk result (λ bytes. IsAnswered source.old ask bytes source.new) }
-    ensures serves { KeepsClients columns source.old source.new }
+    ensures serves { KeepsClients unicode_measure source.old source.new }
 {
     let mut bytes = Vec::new(alloc);
     source.respond(ask, &mut bytes)?;

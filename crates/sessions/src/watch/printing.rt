@@ -1,7 +1,7 @@
 //! What a session prints of the answers that a client takes.
 ghost use Rattle.std.specs.Prelude.{◌≡◌, OnOk, Result, false};
 ghost use Rattle.std.specs.Io.KnownBytes.{Appends};
-ghost use Rattle.sessions.specs.Printing.{Finishes, PrintsOne, shown_lines, whole};
+ghost use Rattle.sessions.specs.Printing.{Finishes, PrintsOne, end_of_watch, shown_lines};
 ghost use Rattle.termwiz_share.specs.Client.{shown_by};
 
 use crate::ending::{SessionError, write};
@@ -56,7 +56,7 @@ impl Printing {
 
     /// How a session ends whose stream has ended.
     pub fn whole(self) -> Result<(), WatchEnd>
-        ensures { result ≡ whole self }
+        ensures { result ≡ end_of_watch self }
     {
         if self.stale {
             return Err(WatchEnd::Stale);

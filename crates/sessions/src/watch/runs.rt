@@ -1,6 +1,6 @@
 //! What is shown of a stream of answers.
 ghost use Rattle.std.specs.Prelude.{◌<◌, IfOk, IfSome, OnOk};
-ghost use Rattle.sessions.specs.Watching.{IsWatched, KeepsAnswer, KeepsOne};
+ghost use Rattle.sessions.specs.Watching.{IsWatched, KeepsOne, KeepsOutcome};
 ghost use Rattle.termwiz_share.specs.Client.{shown_by};
 
 use crate::ending::SessionError;
@@ -79,7 +79,7 @@ impl Watched {
         each: bool,
     ) -> Result<(), AllocError>
         ensures { OnOk result (
-            KeepsAnswer each (shown_by client.now) number taken self.old self.new) }
+            KeepsOutcome each (shown_by client.now) number taken self.old self.new) }
     {
         match taken {
             Taken::Shown => keep_view(&mut self.views, client, each),

@@ -1,10 +1,10 @@
 //! Resizing rows.
 ghost use Rattle.std.specs.Prelude.{◌≡◌, ◌<◌, ◌≤◌, ◌++◌, [], IfSome, vec_capacity, vec_len};
 ghost use Rattle.termwiz_screen.specs.{AreVectors, HaveGrown, IfOk, OnErr, OnOk, Undoes, can_undo};
-ghost use Rattle.termwiz_screen.specs.{blank, cells_of, cuts_in_place, drop, grown, in_width};
+ghost use Rattle.termwiz_screen.specs.{blank, cells_of, cuts_in_place, drop, in_width};
 ghost use Rattle.termwiz_screen.specs.{is_vector_of, length, list_all, map, numberless, replicate};
 ghost use Rattle.termwiz_screen.specs.{resized_flags, resized_stored, row_flags, take, true};
-ghost use Rattle.termwiz_screen.specs.{undone};
+ghost use Rattle.termwiz_screen.specs.{undone, widened_line};
 
 use super::add_blank_rows;
 use std::alloc::{AllocError, Global};
@@ -37,7 +37,7 @@ fn grow_text(alloc: Global, row: &mut Line, width: usize) -> Result<Undo, AllocE
 
 // Grows a row that has fewer columns, in place. A text becomes a vector of the width.
 fn grow_row(alloc: Global, row: &mut Line, width: usize) -> Result<Undo, AllocError>
-    ensures ok { OnOk result (row.new ≡ grown width row.old) }
+    ensures ok { OnOk result (row.new ≡ widened_line width row.old) }
     ensures undo { IfOk result (λ undo. Undoes row.old undo) }
     ensures err { OnErr result (row.new ≡ row.old) }
 {
@@ -84,7 +84,7 @@ fn grow_some(
 
 // Grows the rows. Where memory is refused for one, those that have grown are restored.
 fn grow_rows(alloc: Global, rows: &mut [Line], width: usize) -> Result<(), AllocError>
-    ensures ok { OnOk result (rows.new ≡ map (grown width) rows.old) }
+    ensures ok { OnOk result (rows.new ≡ map (widened_line width) rows.old) }
     ensures err { OnErr result (rows.new ≡ rows.old) }
 {
     let mut undos = Vec::with_capacity(alloc, rows.len())?;

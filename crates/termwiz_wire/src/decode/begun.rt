@@ -13,9 +13,9 @@ ghost use Rattle.termwiz_wire.specs.CutLinks.{IsLinkPart, part_of};
 ghost use Rattle.termwiz_wire.specs.Decoding.{change_at};
 ghost use Rattle.termwiz_wire.specs.Lent.{lent_answer};
 ghost use Rattle.termwiz_wire.specs.Resuming.{AreWithin, BeginsChange, EndsIn, DecodesOn};
-ghost use Rattle.termwiz_wire.specs.Resuming.{IsChangePart, IsCut, IsWith, LeadsOn, Resumes};
-ghost use Rattle.termwiz_wire.specs.Resuming.{WithNext, WithWhole, begun_with, change_part};
-ghost use Rattle.termwiz_wire.specs.Resuming.{cut_after};
+ghost use Rattle.termwiz_wire.specs.Resuming.{IsChangePart, IsWith, LeadsOn, Resumes};
+ghost use Rattle.termwiz_wire.specs.Resuming.{StopsTruncated, WithNext, WithWhole, begun_with};
+ghost use Rattle.termwiz_wire.specs.Resuming.{change_part, cut_after};
 ghost use Rattle.termwiz_wire.specs.Sent.{answer};
 ghost use Rattle.termwiz_wire.specs.Work.{most_work, spent_on};
 ghost use Rattle.termwiz_wire.specs.declared.decode.begun.BegunChange.TheVariants.{Link, Text};
@@ -402,7 +402,7 @@ fn begin_change<'a, W: Widths>(
 ) -> Result<Option<BegunChange>, AllocError>
     requires { EndsIn hand.now reader.old.bytes.now }
     ensures begins { (rows : Option ℕ) →
-        IsCut (change_at (measure W.width_of widths.now) reader.old.room rows
+        StopsTruncated (change_at (measure W.width_of widths.now) reader.old.room rows
         reader.old.bytes.now) →
         IfOk result (λ x. BeginsChange (measure W.width_of widths.now) reader.old.room hand.now
         reader.old.bytes.now (option_map change_part x) reader.new.bytes.now) }

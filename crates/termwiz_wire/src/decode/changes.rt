@@ -16,8 +16,8 @@ ghost use Rattle.termwiz_wire.specs.Decoding.{region_size_at, scroll_at};
 ghost use Rattle.termwiz_wire.specs.Encoding.{change, changes};
 ghost use Rattle.termwiz_wire.specs.Forms.{AreChanges, IsChange};
 ghost use Rattle.termwiz_wire.specs.Pieces.{runs};
-ghost use Rattle.termwiz_wire.specs.Beginning.{IsNeeded};
-ghost use Rattle.termwiz_wire.specs.Work.{cost, most_work, rows_of};
+ghost use Rattle.termwiz_wire.specs.Beginning.{NeedsPieces};
+ghost use Rattle.termwiz_wire.specs.Work.{cost, head_rows, most_work};
 
 use super::attributes::{attribute_change_of, attributes_of};
 use super::cuts::{are_same, cut_of};
@@ -207,7 +207,7 @@ pub(super) fn next_of<'a, W: Widths>(
 
 // The rows of the screen that an answer is for.
 fn rows_of(head: Option<Head>) -> Option<usize>
-    ensures { result ≡ rows_of head }
+    ensures { result ≡ head_rows head }
 {
     match head {
         Some(head) => Some(head.height),
@@ -394,7 +394,7 @@ fn listed_of<'a, W: Widths>(
     start: &'a [u8],
     reader: &mut Reader<'a>,
 ) -> Result<(), ReadError>
-    requires { IsNeeded needed (runs (measure W.width_of widths.now) text.now) }
+    requires { NeedsPieces needed (runs (measure W.width_of widths.now) text.now) }
     ensures value { Gives (allowed reader.new.room reader.new.bytes.now)
         (λ _. reader.new.bytes.now) result
         (pieces_at reader.old.room (allowed reader.old.room start.now) text.now

@@ -8,8 +8,8 @@ ghost use Rattle.termwiz_wire.specs.CutLinks.{IsLinkPart, before_link_by, has_it
 ghost use Rattle.termwiz_wire.specs.CutLinks.{link_begun_at, link_change, link_item_at};
 ghost use Rattle.termwiz_wire.specs.CutLinks.{link_part_at, link_rest_at, part_of};
 ghost use Rattle.termwiz_wire.specs.Decoding.{change_at};
-ghost use Rattle.termwiz_wire.specs.Resuming.{BeginsLink, HasReadOn, IsCut, ReachesItem};
-ghost use Rattle.termwiz_wire.specs.Resuming.{ReadsOn};
+ghost use Rattle.termwiz_wire.specs.Resuming.{BeginsLink, HasReadOn, ReachesItem};
+ghost use Rattle.termwiz_wire.specs.Resuming.{ReadsOn, StopsTruncated};
 
 use super::attributes::{before_link_of, link_alone_of};
 use super::changes::{count_of, kind_of};
@@ -45,7 +45,7 @@ pub(super) fn begin_link(
     reader: &mut Reader<'_>,
 ) -> Result<Option<BegunLink>, AllocError>
     ensures begins { (measure : List ℕ → ℕ) (rows : Option ℕ) →
-        IsCut (change_at measure reader.old.room rows reader.old.bytes.now) →
+        StopsTruncated (change_at measure reader.old.room rows reader.old.bytes.now) →
         IfOk result (λ x. BeginsLink reader.old.room reader.old.bytes.now
         (option_map part_of x) reader.new.bytes.now) }
     ensures room { reader.new.room ≡ reader.old.room }
@@ -74,7 +74,8 @@ fn with_params(
     reader: &mut Reader<'_>,
 ) -> Result<BegunLink, AllocError>
     requires { IsLinkPart (part_of link) }
-    ensures reads { IsCut (link_rest_at reader.old.room (part_of link) reader.old.bytes.now) →
+    ensures reads { StopsTruncated
+        (link_rest_at reader.old.room (part_of link) reader.old.bytes.now) →
         IfOk result (λ x. HasReadOn reader.old.room (part_of link) reader.old.bytes.now (part_of x)
         reader.new.bytes.now × ReachesItem reader.old.room (part_of x) reader.new.bytes.now) }
     ensures room { reader.new.room ≡ reader.old.room }

@@ -10,8 +10,8 @@ ghost use Rattle.termwiz_wire.specs.CutTexts.{text_part, with_pieces_at};
 ghost use Rattle.termwiz_wire.specs.Decoding.{change_at};
 ghost use Rattle.termwiz_wire.specs.Pieces.{runs};
 ghost use Rattle.termwiz_wire.specs.Resuming.{AreWithin, Compares, EndsIn, HasReadRuns};
-ghost use Rattle.termwiz_wire.specs.Resuming.{IsBegunText, IsCut, MayBeginText, ReachesRun};
-ghost use Rattle.termwiz_wire.specs.Resuming.{ReadsOthers, ReadsRuns};
+ghost use Rattle.termwiz_wire.specs.Resuming.{IsBegunText, MayBeginText, ReachesRun};
+ghost use Rattle.termwiz_wire.specs.Resuming.{ReadsOthers, ReadsRuns, StopsTruncated};
 
 use super::changes::{count_of, kind_of};
 use super::cuts::{characters_in, is_run, run_of, threes_of};
@@ -73,7 +73,7 @@ pub(super) fn begin_text<'a, W: Widths>(
 ) -> Result<Option<BegunText>, AllocError>
     requires { EndsIn hand.now reader.old.bytes.now }
     ensures begins { (rows : Option ℕ) →
-        IsCut (change_at (measure W.width_of widths.now) reader.old.room rows
+        StopsTruncated (change_at (measure W.width_of widths.now) reader.old.room rows
         reader.old.bytes.now) →
         IfOk result (λ x. MayBeginText (measure W.width_of widths.now) reader.old.room hand.now
         reader.old.bytes.now (option_map text_part x) reader.new.bytes.now) }
@@ -112,7 +112,7 @@ fn cut_pieces<'a>(
 ) -> Result<Option<BegunPieces>, AllocError>
     requires end { EndsIn hand.now reader.old.bytes.now }
     requires within { AreWithin places (length hand.now - length reader.old.bytes.now) }
-    ensures { IsCut (pieces_rest_at reader.old.room places (pieces_part pieces) hand.now
+    ensures { StopsTruncated (pieces_rest_at reader.old.room places (pieces_part pieces) hand.now
         reader.old.bytes.now) →
         IfOk result (λ x. MatchOption x ⊥ (λ more. HasReadRuns reader.old.room places
         (pieces_part pieces) hand.now reader.old.bytes.now (pieces_part more)

@@ -2,11 +2,12 @@
 ghost use Rattle.std.specs.Prelude.{◌≡◌, ◌*◌, ◌<◌, ◌≤◌, [], Bool, IfOk, Ok, drop, false, length};
 ghost use Rattle.std.specs.Str.{chars};
 ghost use Rattle.cbor.specs.Decoding.{Gives, allowed};
+ghost use Rattle.termwiz_cell.specs.CellValue.{is_control};
 ghost use Rattle.termwiz_cell.specs.Measure.{measure};
 ghost use Rattle.std.specs.List.{list_any};
 ghost use Rattle.termwiz_wire.specs.Cuts.{begins_line_feed, is_line_end, is_return};
 ghost use Rattle.termwiz_wire.specs.Cuts.{are_at, are_characters, are_columns, are_pieces, cut_at};
-ghost use Rattle.termwiz_wire.specs.Cuts.{have_columns, is_break, is_control, is_count, is_piece};
+ghost use Rattle.termwiz_wire.specs.Cuts.{have_columns, is_break, is_count, is_piece};
 ghost use Rattle.termwiz_wire.specs.Cuts.{is_rest_at, is_run_at, kept_at, no_run, run_at, runs_at};
 ghost use Rattle.termwiz_wire.specs.Cuts.{same_at, threes_at};
 ghost use Rattle.termwiz_wire.specs.Pieces.{runs};

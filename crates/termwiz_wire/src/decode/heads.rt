@@ -3,9 +3,9 @@ ghost use Rattle.std.specs.Prelude.{◌≡◌, ◌<◌, ◌≤◌, ◌^◌, ◌+
 ghost use Rattle.std.specs.Prelude.{Ok, length, ℕ};
 ghost use Rattle.cbor.specs.Decoding.{Gives, allowed, fault_of};
 ghost use Rattle.termwiz_surface.specs.Surface.{IsSurfaceSize};
-ghost use Rattle.termwiz_wire.specs.Answers.{answer_at, answer_head_at, body_at, head_at, head_of};
-ghost use Rattle.termwiz_wire.specs.Answers.{height_at, number_at, opened_at, size_at, source_at};
-ghost use Rattle.termwiz_wire.specs.Answers.{version_at};
+ghost use Rattle.termwiz_wire.specs.Answers.{answer_at, answer_head_at, based_number_at, body_at};
+ghost use Rattle.termwiz_wire.specs.Answers.{head_at, head_of, height_at, opened_at, size_at};
+ghost use Rattle.termwiz_wire.specs.Answers.{source_at, version_at};
 ghost use Rattle.termwiz_wire.specs.Screens.{FitsLimits};
 ghost use Rattle.termwiz_wire.specs.Sent.{IsSent, answer};
 ghost use Rattle.termwiz_wire.specs.declared.sent.SentAnswer.{SentAnswer};
@@ -197,11 +197,11 @@ fn height_of(reader: &mut Reader<'_>, limits: Limits, width: usize) -> Result<us
 }
 
 // A number from the base on.
-#[tactic(auto, unfolding(crate::specs::Answers::number_at))]
+#[tactic(auto, unfolding(crate::specs::Answers::based_number_at))]
 fn number_of(reader: &mut Reader<'_>, base: SequenceNo) -> Result<SequenceNo, ReadError>
     ensures value { Gives (allowed reader.new.room reader.new.bytes.now)
         (λ x. (x, reader.new.bytes.now)) result
-        (number_at reader.old.room base reader.old.bytes.now) }
+        (based_number_at reader.old.room base reader.old.bytes.now) }
     ensures from { IfOk result (λ x. base ≤ x) }
     ensures room { reader.new.room ≡ reader.old.room }
     ensures fault { IfErr result (λ error. IsSome (fault_of error)) }

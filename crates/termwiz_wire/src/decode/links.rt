@@ -4,9 +4,9 @@ ghost use Rattle.std.specs.Prelude.{OnOk};
 ghost use Rattle.cbor.specs.Decoding.{Gives, allowed, text_at};
 ghost use Rattle.termwiz_cell.specs.Link.{linked, param_bytes};
 ghost use Rattle.termwiz_cell.specs.LinkPairs.{with_pair};
-ghost use Rattle.termwiz_wire.specs.Decoding.{ascends, key_at, link_at, optional_link_at, param_at};
+ghost use Rattle.termwiz_wire.specs.Decoding.{ascends, key_at, link_at, optional_link_at};
 ghost use Rattle.termwiz_wire.specs.CutLinks.{param_key_at};
-ghost use Rattle.termwiz_wire.specs.Decoding.{params_at};
+ghost use Rattle.termwiz_wire.specs.Decoding.{param_item_at, params_at};
 
 use cbor::{Kind, ReadError, Reader};
 use std::alloc::{AllocError, Global};
@@ -97,7 +97,7 @@ fn params_of(
 }
 
 // A param whose key is above those that there are.
-#[tactic(auto, unfolding(crate::specs::Decoding::param_at, crate::specs::CutLinks::param_key_at))]
+#[tactic(auto, unfolding(crate::specs::Decoding::param_item_at, crate::specs::CutLinks::param_key_at))]
 fn param_of(
     alloc: Global,
     before: &BTreeMap<String, String>,
@@ -105,7 +105,7 @@ fn param_of(
 ) -> Result<(String, String), ReadError>
     ensures value { Gives (allowed reader.new.room reader.new.bytes.now)
         (λ x. ((string_bytes x.0, string_bytes x.1), reader.new.bytes.now)) result
-        (param_at reader.old.room (map param_bytes before.now.entries) reader.old.bytes.now) }
+        (param_item_at reader.old.room (map param_bytes before.now.entries) reader.old.bytes.now) }
     ensures above { IfOk result (λ x.
         ascends (map param_bytes before.now.entries) (string_bytes x.0) ≡ true) }
     ensures room { reader.new.room ≡ reader.old.room }

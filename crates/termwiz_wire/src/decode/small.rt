@@ -1,9 +1,9 @@
 //! Small attributes, colours and positions.
 ghost use Rattle.std.specs.Prelude.{◌≡◌, IfOk, true};
 ghost use Rattle.cbor.specs.Decoding.{Gives, allowed};
-ghost use Rattle.termwiz_wire.specs.Decoding.{are_small, color_at, palette_at, position_at};
-ghost use Rattle.termwiz_wire.specs.Decoding.{rgb_at, rgb_palette_at, split, style_at, styled};
-ghost use Rattle.termwiz_wire.specs.Decoding.{visibility_of, which_at};
+ghost use Rattle.termwiz_wire.specs.Decoding.{are_small, color_item_at, palette_at, position_at};
+ghost use Rattle.termwiz_wire.specs.Decoding.{rgb_item_at, rgb_palette_at, split, style_item_at};
+ghost use Rattle.termwiz_wire.specs.Decoding.{styled, visibility_of, which_at};
 ghost use Rattle.termwiz_wire.specs.Encoding.{fields};
 
 use cbor::{Kind, ReadError, Reader};
@@ -39,11 +39,11 @@ fn has_small_fields(number: usize) -> bool
 }
 
 /// The small attributes as one number.
-#[tactic(auto, unfolding(crate::specs::Decoding::style_at))]
+#[tactic(auto, unfolding(crate::specs::Decoding::style_item_at))]
 pub(super) fn style_of(reader: &mut Reader<'_>) -> Result<usize, ReadError>
     ensures value { Gives (allowed reader.new.room reader.new.bytes.now)
         (λ x. (x, reader.new.bytes.now)) result
-        (style_at reader.old.room reader.old.bytes.now) }
+        (style_item_at reader.old.room reader.old.bytes.now) }
     ensures small { IfOk result (λ number. are_small (split fields number) ≡ true) }
     ensures room { reader.new.room ≡ reader.old.room }
 {
@@ -101,11 +101,11 @@ fn palette_of(reader: &mut Reader<'_>) -> Result<ColorAttribute, ReadError>
     Ok(ColorAttribute::PaletteIndex(index as u8))
 }
 
-#[tactic(auto, unfolding(crate::specs::Decoding::rgb_at))]
+#[tactic(auto, unfolding(crate::specs::Decoding::rgb_item_at))]
 fn rgb_of(reader: &mut Reader<'_>) -> Result<ColorAttribute, ReadError>
     ensures value { Gives (allowed reader.new.room reader.new.bytes.now)
         (λ x. (x, reader.new.bytes.now)) result
-        (rgb_at reader.old.room reader.old.bytes.now) }
+        (rgb_item_at reader.old.room reader.old.bytes.now) }
     ensures room { reader.new.room ≡ reader.old.room }
 {
     let red = reader.below(256)?;
@@ -131,11 +131,11 @@ fn rgb_palette_of(reader: &mut Reader<'_>) -> Result<ColorAttribute, ReadError>
 }
 
 /// Decodes a colour.
-#[tactic(auto, unfolding(crate::specs::Decoding::color_at))]
+#[tactic(auto, unfolding(crate::specs::Decoding::color_item_at))]
 pub(super) fn color_of(reader: &mut Reader<'_>) -> Result<ColorAttribute, ReadError>
     ensures value { Gives (allowed reader.new.room reader.new.bytes.now)
         (λ x. (x, reader.new.bytes.now)) result
-        (color_at reader.old.room reader.old.bytes.now) }
+        (color_item_at reader.old.room reader.old.bytes.now) }
     ensures room { reader.new.room ≡ reader.old.room }
 {
     match reader.kind()? {

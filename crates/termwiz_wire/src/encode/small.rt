@@ -2,8 +2,9 @@
 ghost use Rattle.std.specs.Prelude.{◌≡◌, ◌<◌, ◌++◌, OnOk};
 ghost use Rattle.cbor.specs.Encoding.{Extends, array, unsigned};
 ghost use Rattle.termwiz_cell.specs.Style.{flag_number};
+ghost use Rattle.termwiz_cell.specs.StyleWord.{IsRgb};
 ghost use Rattle.termwiz_wire.specs.Encoding.{color, is_visible, position, style_number};
-ghost use Rattle.termwiz_wire.specs.Forms.{IsColor, IsPosition, IsRgb};
+ghost use Rattle.termwiz_wire.specs.Forms.{IsColor, IsPosition};
 
 use cbor::{put_array, put_null, put_signed, put_unsigned};
 use std::alloc::AllocError;

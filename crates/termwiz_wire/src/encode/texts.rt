@@ -4,7 +4,7 @@ ghost use Rattle.std.specs.List.{flat_map};
 ghost use Rattle.cbor.specs.Encoding.{Extends};
 ghost use Rattle.termwiz_cell.specs.ChangeValue as changed;
 ghost use Rattle.termwiz_cell.specs.Measure.{measure};
-ghost use Rattle.termwiz_wire.specs.Beginning.{IsNeeded};
+ghost use Rattle.termwiz_wire.specs.Beginning.{NeedsPieces};
 ghost use Rattle.termwiz_wire.specs.Encoding.{change, pieces};
 ghost use Rattle.termwiz_wire.specs.Encoding as encoding;
 ghost use Rattle.termwiz_wire.specs.Forms.{IsPrinted};
@@ -46,7 +46,7 @@ fn put_pieces<W: Widths>(
     text: &str,
     count: usize,
 ) -> Result<(), AllocError>
-    requires { IsNeeded count (runs (measure W.width_of widths.now) text.now) }
+    requires { NeedsPieces count (runs (measure W.width_of widths.now) text.now) }
     ensures written { OnOk result (out.new.items
         ≡ out.old.items ++ pieces (runs (measure W.width_of widths.now) text.now)) }
     ensures kept { Extends out.old.items out.new.items }

@@ -2,7 +2,7 @@ use Rattle.std.proofs.Common.{◌≡◌, ◌⊎◌, ap, subst, inl, inr, rules}
 use Rattle.std.specs.Io.KnownBytes.{Appends}
 use Rattle.std.proofs.lemmas.Result.{IfOk-at_ok}
 use Rattle.sessions.specs.Answering.{AnswersAsAsked, AnswersFirst, AnswersFirstAsAsked, WritesAnswers}
-use Rattle.sessions.specs.Status.{status_of}
+use Rattle.sessions.specs.Status.{exit_status}
 use Rattle.sessions.specs.Writing.{AppendsSome}
 use Rattle.sessions.specs.declared.ending.SessionError.{SessionError}
 use Rattle.sessions.proofs.Answered.{Known, is_read}
@@ -48,5 +48,5 @@ returns-clause-stopped g c =
     let all = fresh (λ r. g.R.Read.remaining r.now) lines input inner (IfOk-at_ok _ read c.new.ensures.empty) (IfOk-at_ok _ read c.new.ensures.capacity) in
     let P : Known → Type 0 = λ known. AnswersFirst o.source o.width o.height known (Appends old new) in
     let Q : Type 0 = (c.answer_lines.new.out ≡ c.args.out.now) ⊎ AnswersFirstAsAsked c.args.words.now input (Appends old new) in
-    on_err c.answer_lines.result _ (λ (error : SessionError). status_of error ≡ 2 → Q)
+    on_err c.answer_lines.result _ (λ (error : SessionError). exit_status error ≡ 2 → Q)
     (λ error stopped two. inr (record { source = o.source; width = o.width; height = o.height; sizes = search rules; writes = subst P all (stopped two) })) c.answer_lines.ensures.stopped

@@ -5,7 +5,7 @@ use Rattle.termwiz_cell.specs.Measure.{measure}
 use Rattle.termwiz_screen.specs.Print.{piece_of}
 use Rattle.termwiz_text.specs.First.{IsFirst}
 use Rattle.termwiz_wire.specs.Beginning.{IsBeginning}
-use Rattle.termwiz_wire.specs.Pieces.{columns_of}
+use Rattle.termwiz_wire.specs.Pieces.{piece_columns}
 use Rattle.termwiz_wire.specs.declared.pieces.Run.{Run}
 use Rattle.termwiz_wire.proofs.Runs.{beginning_of_piece, runs-nothing}
 use Rattle.termwiz_wire.proofs.pieces.split_piece.Goals as goal
@@ -23,7 +23,7 @@ returns g c =
     let rest : List ℕ = c.in_ok-grapheme.rest.now in
     let is : IsFirst text first rest = search rules in
     let size : c.char_count.result ≡ length (chars first) = c.char_count.ensures in
-    let columns : c.columns_of.result ≡ columns_of (piece_of f default_attributes first) = c.columns_of.ensures in
+    let columns : c.columns_of.result ≡ piece_columns (piece_of f default_attributes first) = c.columns_of.ensures in
     let P : Run → Type 0 = λ r. IsBeginning f text r rest in
     let made : ℕ → ℕ → Run = λ a b. record { count = 1; characters = a; columns = b } in
     subst P (sym (ap₂ made size columns)) (beginning_of_piece f text first rest is)

@@ -1,12 +1,12 @@
 use Rattle.std.proofs.Common.{◌≡◌, ◌<◌, ◌≤◌, ◌++◌, List, ℕ, drop, length, ap, inr, refl, rules, subst, ◌∙◌}
-use Rattle.termwiz_share.specs.Source.{IsWritten, response_bytes}
+use Rattle.termwiz_share.specs.Source.{WritesFront, response_bytes}
 use Rattle.tikeburo_c.specs.Widths.{columns_by}
 use Rattle.tikeburo_c.proofs.answers.answer.Goals as goal
 
-fits : (bytes old new : List ℕ) (n : ℕ) → n ≤ length old → IsWritten bytes old n new → (length bytes ≤ length old) × (new ≡ bytes ++ drop (length bytes) old) × (n ≡ length bytes)
+fits : (bytes old new : List ℕ) (n : ℕ) → n ≤ length old → WritesFront bytes old n new → (length bytes ≤ length old) × (new ≡ bytes ++ drop (length bytes) old) × (n ≡ length bytes)
 fits bytes old new n le w = (subst (λ k. k ≤ length old) w.0 le, w.1 le ∙ ap (λ k. bytes ++ drop k old) w.0, w.0)
 
-is_short : (bytes old new : List ℕ) (n : ℕ) → length old < n → IsWritten bytes old n new → (length old < length bytes) × (new ≡ old) × (n ≡ length bytes)
+is_short : (bytes old new : List ℕ) (n : ℕ) → length old < n → WritesFront bytes old n new → (length old < length bytes) × (new ≡ old) × (n ≡ length bytes)
 is_short bytes old new n more w = (subst (λ k. length old < k) w.0 more, w.2 more, w.0)
 
 pub returns-then-size-count : goal.returns-then-size-count

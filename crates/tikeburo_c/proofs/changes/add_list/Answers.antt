@@ -1,7 +1,7 @@
 use Rattle.std.proofs.Common.{ℕ, List, ◌+◌, ◌-◌, length, rules}
 use Rattle.std.specs.Prelude.{Result, Ok, Err}
 use Rattle.termwiz_screen.specs.Log.{next_number}
-use Rattle.termwiz_share.specs.Source.{trimmed}
+use Rattle.termwiz_share.specs.Source.{trimmed_surface}
 use Rattle.termwiz_surface.specs.ChangeLists.{AddsList, change_list, is_logged}
 use Rattle.termwiz_surface.specs.Surface.{SurfaceValue}
 use Rattle.termwiz_surface.specs.declared.surface.SurfaceError.{SurfaceError}
@@ -21,7 +21,7 @@ adds_as (Unlogged changes) f old number added new adds = adds
 pub returns-in_err-add-clause-adds : goal.returns-in_err-add-clause-adds
 returns-in_err-add-clause-adds g c =
     let e = c.in_err-add.ensures in
-    let old = trimmed c.args.surface.now.surface in
+    let old = trimmed_surface c.args.surface.now.surface in
     let number = next_number old.log - 1 + length (change_list c.args.list) in (
       number,
       Err c.in_err-add.field-0.0,
@@ -33,7 +33,7 @@ returns-in_err-add-clause-adds g c =
 pub returns-clause-adds : goal.returns-clause-adds
 returns-clause-adds g c =
     let e = c.in_ok-add.ensures in
-    let old = trimmed c.args.surface.now.surface in
+    let old = trimmed_surface c.args.surface.now.surface in
     let number = next_number old.log - 1 + length (change_list c.args.list) in (
       number,
       Ok c.in_ok-add.field-0,

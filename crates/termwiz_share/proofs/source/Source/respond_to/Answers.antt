@@ -3,7 +3,7 @@ use Rattle.termwiz_cell.specs.Measure.{measure}
 use Rattle.termwiz_surface.proofs.Preserving.{preserves-same}
 use Rattle.termwiz_surface.specs.Surface.{SurfaceValue}
 use Rattle.termwiz_share.specs.Serving.{PreservesServing}
-use Rattle.termwiz_share.specs.Source.{IsResponse, IsWritten, SourceValue, bytes_of, number_asked, response_bytes, source_of}
+use Rattle.termwiz_share.specs.Source.{IsResponse, SourceValue, WritesFront, bytes_of, number_asked, response_bytes, source_of}
 use Rattle.termwiz_share.proofs.Answering.{alone_of, keeps_responses, named_by, response_is, response_of}
 use Rattle.termwiz_share.proofs.Served.{serves_on}
 use Rattle.termwiz_share.proofs.source.Source.respond_to.Goals as goal
@@ -42,7 +42,7 @@ returns-clause-written g c =
     let t : SourceValue _ = record { surface = c.forget_unneeded.new.self; number = c.self.inside.number } in
     let p = c.in_ok-is_delta.ensures.answers in
     let is : c.bytes.result.now ≡ response_bytes f t c.args.ask = response_is f s c.forget_unneeded.new.self c.args.ask c.number_asked-from.result p.given c.forget_unneeded.ensures.forgets c.forget_unneeded.ensures.answers (sym named) p.answers [] c.bytes.result.now (c.bytes.ensures ∙ p.put) in
-    subst (λ (b : List ℕ). IsWritten b c.args.room.now c.write_front-len.result c.write_front-len.new.room) is c.write_front-len.ensures
+    subst (λ (b : List ℕ). WritesFront b c.args.room.now c.write_front-len.result c.write_front-len.new.room) is c.write_front-len.ensures
 
 pub returns-clause-preserves : goal.returns-clause-preserves
 returns-clause-preserves g c =

@@ -8,7 +8,7 @@ use Rattle.termwiz_surface.specs.declared.surface.lists.LentChange.{LentChange}
 use Rattle.termwiz_wire.specs.Answers.{answer_in, sent_of}
 use Rattle.termwiz_wire.specs.Decoding.{change_at}
 use Rattle.std.specs.Prelude.{Option, option_map}
-use Rattle.termwiz_wire.specs.Resuming.{BeginsChange, ChangePart, EndsIn, DecodesOn, IsCut, change_part}
+use Rattle.termwiz_wire.specs.Resuming.{BeginsChange, ChangePart, EndsIn, DecodesOn, StopsTruncated, change_part}
 use Rattle.termwiz_wire.specs.Sent.{answer}
 use Rattle.termwiz_wire.specs.Work.{spent_on}
 use Rattle.termwiz_wire.specs.declared.decode.heads.Head.{Head}
@@ -92,7 +92,7 @@ returns-in-Ok-false-clause-exact g c =
     let more : List ChangeValue = map change_value c.deref.result.now ++ map lent_value c.go_on.new.changes.items in
     let rest : List ℕ = c.go_on.new.reader.bytes.now in
     let goes : DecodesOn m room head made start (Ok false) more (allowed c.go_on.new.reader.room rest) rest = subst (λ (b : Bool). DecodesOn m room head made start (Ok b) more (allowed c.go_on.new.reader.room rest) rest) c.in-Ok-false.field-0-test c.in-Ok-false.ensures.goes in
-    let cut : IsCut (change_at m c.go_on.new.reader.room (Some head.height) rest) = rw c.in-Ok-false.ensures.room (cut_change m room head (spent_on (Some head) more) rest goes.2) in
+    let cut : StopsTruncated (change_at m c.go_on.new.reader.room (Some head.height) rest) = rw c.in-Ok-false.ensures.room (cut_change m room head (spent_on (Some head) more) rest goes.2) in
     goes_cut m c.args.limits c.args.bytes.now c.args.begun c.requires.leads c.requires.whole room start made more c.go_on.new.reader.room rest c.with_limit-reader.ensures.room (none_more c.deref.result.now c.args.begun.changes.items c.new-more.result.items c.deref.ensures.value c.new-more.ensures.items) (start_is g before) c.in_ok-changes-in-Ok-false.changes c.in_ok-next-in-Ok-false.next c.begin_change.new.reader.bytes.now c.in-Ok-false.field-0 c.saturating_sub-taken-in-Ok-false.result c.go_on.new.spent c.in-Ok-false.ensures.bytes (c.in_ok-changes-in-Ok-false.ensures ∙ lent_is c.deref.result.now c.args.begun.changes.items c.go_on.new.changes.items c.deref.ensures.value) c.in-Ok-false.field-0-test c.in-Ok-false.ensures.goes (begins_here m c.go_on.new.reader.room c.rest-hand.result.now (take c.args.limits.bytes c.args.bytes.now) rest (option_map change_part c.in_ok-next-in-Ok-false.next) c.begin_change.new.reader.bytes.now (hand_is g before) (c.in_ok-next-in-Ok-false.ensures.begins (Some head.height) cut)) (c.in-Ok-false.ensures.room ∙ c.with_limit-reader.ensures.room)
     (lens_of c.rest-hand.result.now (take c.args.limits.bytes c.args.bytes.now) c.begin_change.new.reader.bytes.now c.saturating_sub-taken-in-Ok-false.result c.saturating_sub-taken-in-Ok-false.ensures (hand_is g before))
     c.in-Ok-false.ensures.spent c.in-Ok-false.ensures.few

@@ -3,7 +3,7 @@ use Rattle.std.specs.Prelude.{MatchOption, length}
 use Rattle.cbor.specs.Decoding.{IsBytes, allowed}
 use Rattle.termwiz_cell.specs.Measure.{measure}
 use Rattle.termwiz_wire.specs.CutTexts.{PiecesPart, pieces_part, pieces_rest_at, text_begun_at, text_part}
-use Rattle.termwiz_wire.specs.Resuming.{HasReadRuns, IsBegunText, IsCut, ReachesRun}
+use Rattle.termwiz_wire.specs.Resuming.{HasReadRuns, IsBegunText, ReachesRun, StopsTruncated}
 use Rattle.termwiz_wire.specs.declared.decode.cut_texts.BegunPieces.{BegunPieces}
 use Rattle.termwiz_wire.specs.declared.decode.cut_texts.Places.{Places}
 use Rattle.termwiz_wire.proofs.CutLinks.{unbegun}
@@ -38,8 +38,8 @@ returns-in-Some g c = record {
       let rest : List ℕ = c.cut_pieces.new.reader.bytes.now in
       let places : Places = c.in-Ok.text.places in
       let pieces : PiecesPart = pieces_part c.in-Ok.text.pieces in
-      let here : IsCut (pieces_rest_at room places pieces c.args.hand.now first) = begun_cut (measure g.W.Widths.width_of c.args.widths.now) room c.args.hand.now c.args.reader.now.bytes.now (text_part c.in-Ok.text) first c.requires (fits g before) (begun g before) rows cut in
-      let gives : IsCut (pieces_rest_at room places pieces c.args.hand.now first) → MatchOption c.in_ok-cut-in-Ok.cut ⊥ (λ (more : BegunPieces). HasReadRuns room places pieces c.args.hand.now first (pieces_part more) rest × ReachesRun room (pieces_part more) rest) = rw (← c.in-Ok.ensures.room) c.in_ok-cut-in-Ok.ensures in
+      let here : StopsTruncated (pieces_rest_at room places pieces c.args.hand.now first) = begun_cut (measure g.W.Widths.width_of c.args.widths.now) room c.args.hand.now c.args.reader.now.bytes.now (text_part c.in-Ok.text) first c.requires (fits g before) (begun g before) rows cut in
+      let gives : StopsTruncated (pieces_rest_at room places pieces c.args.hand.now first) → MatchOption c.in_ok-cut-in-Ok.cut ⊥ (λ (more : BegunPieces). HasReadRuns room places pieces c.args.hand.now first (pieces_part more) rest × ReachesRun room (pieces_part more) rest) = rw (← c.in-Ok.ensures.room) c.in_ok-cut-in-Ok.ensures in
       let both = subst (λ (o : Option BegunPieces). MatchOption o ⊥ (λ (more : BegunPieces). HasReadRuns room places pieces c.args.hand.now first (pieces_part more) rest × ReachesRun room (pieces_part more) rest)) c.in-Some.is (gives here) in
       record { first = first; begun = pieces; begins = begun g before; read = both.0; reached = both.1 };
 }
@@ -53,8 +53,8 @@ returns-in-None g c = record {
       let rest : List ℕ = c.cut_pieces.new.reader.bytes.now in
       let places : Places = c.in-Ok.text.places in
       let pieces : PiecesPart = pieces_part c.in-Ok.text.pieces in
-      let here : IsCut (pieces_rest_at room places pieces c.args.hand.now first) = begun_cut (measure g.W.Widths.width_of c.args.widths.now) room c.args.hand.now c.args.reader.now.bytes.now (text_part c.in-Ok.text) first c.requires (fits g before) (begun g before) rows cut in
-      let gives : IsCut (pieces_rest_at room places pieces c.args.hand.now first) → MatchOption c.in_ok-cut-in-Ok.cut ⊥ (λ (more : BegunPieces). HasReadRuns room places pieces c.args.hand.now first (pieces_part more) rest × ReachesRun room (pieces_part more) rest) = rw (← c.in-Ok.ensures.room) c.in_ok-cut-in-Ok.ensures in
+      let here : StopsTruncated (pieces_rest_at room places pieces c.args.hand.now first) = begun_cut (measure g.W.Widths.width_of c.args.widths.now) room c.args.hand.now c.args.reader.now.bytes.now (text_part c.in-Ok.text) first c.requires (fits g before) (begun g before) rows cut in
+      let gives : StopsTruncated (pieces_rest_at room places pieces c.args.hand.now first) → MatchOption c.in_ok-cut-in-Ok.cut ⊥ (λ (more : BegunPieces). HasReadRuns room places pieces c.args.hand.now first (pieces_part more) rest × ReachesRun room (pieces_part more) rest) = rw (← c.in-Ok.ensures.room) c.in_ok-cut-in-Ok.ensures in
       absurd (subst (λ (o : Option BegunPieces). MatchOption o ⊥ (λ (more : BegunPieces). HasReadRuns room places pieces c.args.hand.now first (pieces_part more) rest × ReachesRun room (pieces_part more) rest)) c.in-None.is (gives here));
 }
 

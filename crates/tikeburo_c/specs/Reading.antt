@@ -15,5 +15,5 @@ ReadsValue read handle old number new =
     (λ outcome. ReadsInto (λ s. Returns (read s)) (handle_value handle) old outcome new)
 
 -- the texts of all rows
-abbrev pub text_of : SurfaceValue ChosenWidths → List ℕ
-text_of s = shown_chars (screen_of s).rows (lengths_of s)
+abbrev pub screen_text : SurfaceValue ChosenWidths → List ℕ
+screen_text s = shown_chars (screen_of s).rows (lengths_of s)

@@ -5,7 +5,7 @@ ghost use Rattle.termwiz_wire.specs.Decoding.{visibility_of};
 ghost use Rattle.termwiz_wire.specs.Encoding.{is_visible};
 ghost use Rattle.tikeburo_c.specs.Handles.{handle_value};
 ghost use Rattle.tikeburo_c.specs.Outcomes.{Reports};
-ghost use Rattle.tikeburo_c.specs.Reading.{ReadsValue, text_of};
+ghost use Rattle.tikeburo_c.specs.Reading.{ReadsValue, screen_text};
 ghost use Rattle.tikeburo_c.specs.Results.{GivesInto, OrNoMemory, ReadsInto};
 
 use crate::access::{fill, read};
@@ -122,7 +122,7 @@ fn give_text(
     room: &mut [u8],
     len: &mut usize,
 ) -> Result<(), Failure>
-    ensures { OrNoMemory (GivesInto (text_of surface.now))
+    ensures { OrNoMemory (GivesInto (screen_text surface.now))
         (room.old, len.old) result (room.new, len.new) }
 {
     let text = surface.screen_chars_to_string()?;
@@ -138,7 +138,7 @@ pub extern "C" fn tk_screen_text(
     room: &mut [u8],
     len: &mut usize,
 ) -> i32
-    ensures read { Reports result (λ outcome. ReadsInto (λ s. OrNoMemory (GivesInto (text_of s)))
+    ensures read { Reports result (λ outcome. ReadsInto (λ s. OrNoMemory (GivesInto (screen_text s)))
         (handle_value handle.old) (room.old, len.old) outcome (room.new, len.new)) }
     ensures same { handle_value handle.new ≡ handle_value handle.old }
 {

@@ -19,7 +19,7 @@ pub record RoomValue (W : Type 0) : Type 0 where
 
 module _ {W : Type 0} where
   -- each client of the room is one of its source, and ready to be served
-  pub record IsServed (measure_of : W → List ℕ → ℕ) (r : RoomValue W) : Type 0 where
+  pub record RoomIsServed (measure_of : W → List ℕ → ℕ) (r : RoomValue W) : Type 0 where
     pub first : Serves measure_of r.source r.first
     pub second : Serves measure_of r.source r.second
     pub third : Serves measure_of r.source r.third

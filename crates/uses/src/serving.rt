@@ -67,7 +67,7 @@ pub struct Room<W: Widths> {
 }
 
 impl<W: Widths> Model for Room<W> {
-    ghost use Rattle.uses.specs.Serving.{IsServed, RoomValue};
+    ghost use Rattle.uses.specs.Serving.{RoomIsServed, RoomValue};
     ghost use Rattle.termwiz_cell.specs.Measure.{measure};
 
     ghost Value = { RoomValue W };
@@ -79,7 +79,7 @@ impl<W: Widths> Model for Room<W> {
       third = r.third;
     } };
 
-    ghost invariant = { λ r. IsServed (measure W.width_of) (view r) };
+    ghost invariant = { λ r. RoomIsServed (measure W.width_of) (view r) };
 }
 
 impl<W: Widths> Room<W> {

@@ -80,8 +80,8 @@ module _ (limits : Limits) where
       (rest ≡ [] → ⊥) × (fault.0 ≡ count + 1) × TakesNone s rest fault.1
 
   -- these answers of the bytes are taken, with this end
-  pub record TakesUpTo (bytes : List ℕ) (given : List SentAnswer) (fault : Option (ℕ × ClientError)) :
-      Type 0 where
+  pub record TakesUpTo (bytes : List ℕ) (given : List SentAnswer)
+      (fault : Option (ℕ × ClientError)) : Type 0 where
     pub last : Shown
     pub rest : List ℕ
     pub takes : TakesAll unicode_columns limits first_shown bytes given last rest

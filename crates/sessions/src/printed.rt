@@ -38,7 +38,8 @@ impl Display for Printed<'_> {
 pub struct PrintedView<'a>(pub SequenceNo, pub &'a Screen);
 
 impl Display for PrintedView<'_> {
-    ghost output = { λ view. Some (viewed_lines (codes "viewer") view.0 (screen_value view.1.now)) };
+    ghost output = { λ view.
+        Some (viewed_lines (codes "viewer") view.0 (screen_value view.1.now)) };
 
     fn fmt<W: fmt::Write>(&self, f: &mut Formatter<W>) -> fmt::Result {
         write_viewed(f, "viewer", self.0, self.1)

@@ -105,5 +105,6 @@ stale_place s a =
     2 +
     (if a.source == s.source
     then
-    length (unsigned a.source) + (length (unsigned a.answer.width) + length (unsigned a.answer.height))
+    length (unsigned a.source) +
+    (length (unsigned a.answer.width) + length (unsigned a.answer.height))
     else 0)

@@ -138,7 +138,8 @@ pub extern "C" fn tk_screen_text(
     room: &mut [u8],
     len: &mut usize,
 ) -> i32
-    ensures read { Reports result (λ outcome. ReadsInto (λ s. OrNoMemory (GivesInto (screen_text s)))
+    ensures read { Reports result (λ outcome.
+        ReadsInto (λ s. OrNoMemory (GivesInto (screen_text s)))
         (handle_value handle.old) (room.old, len.old) outcome (room.new, len.new)) }
     ensures same { handle_value handle.new ≡ handle_value handle.old }
 {

@@ -1,5 +1,5 @@
 -- Bytes that begin with what they had.
-use Rattle.std.proofs.Common.{◌≡◌, List, ℕ, ◌++◌, sym, ap, ◌∙◌, append_assoc}
+use Rattle.std.proofs.Common.{◌≡◌, List, ℕ, ◌++◌, ap, ◌∙◌, append_assoc}
 use Rattle.cbor.specs.Encoding.{BeginsWith}
 
 -- what is appended leaves the front

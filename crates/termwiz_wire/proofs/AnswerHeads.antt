@@ -61,7 +61,7 @@ each_count measure room head zero made bytes x e =
     let len : length made ≡ length x.0 = ap (λ (y : List ChangeValue × List ℕ). length y.0) same in
     omega (arith, len)
 each_count measure room head (suc n) made bytes x e =
-    let first = bind_ok (halted (Some (length made)) (next_at measure room head (spent_on head made) bytes)) (λ c. each_at measure room head (made ++ c.0 ∷ []) n c.1) x e in
+    let first = bind_ok (halted (Some (length made)) (next_at measure room head (spent_on head made) bytes)) _ x e in
     let more : length x.0 ≡ length (made ++ first.0.0 ∷ []) + n = each_count measure room head n (made ++ first.0.0 ∷ []) first.0.1 x first.2 in
     omega (arith, more, length-append made (first.0.0 ∷ []))
 
@@ -69,8 +69,8 @@ each_count measure room head (suc n) made bytes x e =
 in_answer : (measure : List ℕ → ℕ) (room : ℕ) (limits : Limits) (bytes : List ℕ) (x : SentAnswer × List ℕ) → answer_in measure room limits bytes ≡ Ok x → (rest : List ℕ) × (head_at room limits bytes ≡ Ok (head_of x.0, rest))
 unfolding answer_in
 in_answer measure room limits bytes x e =
-    let head = bind_ok (halted None (head_at room limits bytes)) (λ head. each_at measure room (Some head.0) [] head.0.count head.1 >>= λ changes. ok (sent_of head.0 changes.0) changes.1) x e in
-    let cs = bind_ok (each_at measure room (Some head.0.0) [] head.0.0.count head.0.1) (λ changes. ok (sent_of head.0.0 changes.0) changes.1) x head.2 in
+    let head = bind_ok (halted None (head_at room limits bytes)) _ x e in
+    let cs = bind_ok (each_at measure room (Some head.0.0) [] head.0.0.count head.0.1) _ x head.2 in
     let is : head_at room limits bytes ≡ Ok head.0 = halted_ok None (head_at room limits bytes) head.0 head.1 in
     let all : length cs.0.0 ≡ length {A = ChangeValue} [] + head.0.0.count = each_count measure room (Some head.0.0) head.0.0.count [] head.0.1 cs.0 cs.1 in
     let count : length cs.0.0 ≡ head.0.0.count = omega (arith, all) in

@@ -28,7 +28,7 @@ use Rattle.termwiz_wire.proofs.Steps.{stopped, number_takes, let_takes}
 version_takes : (room : ℕ) (bytes rest : List ℕ) → IsBytes bytes → version_at room bytes ≡ Ok rest → Takes bytes (unsigned 2) rest
 unfolding version_at
 version_takes room bytes rest fits e =
-    let a = bind_ok (unsigned_at room bytes) (λ version. cond (eqb version.0 2) (Ok version.1) (refused faults.Version room bytes)) rest e in
+    let a = bind_ok (unsigned_at room bytes) _ rest e in
     let g = guard_ended (eqb a.0.0 2) (stopped faults.Version room bytes) a.0.1 rest a.2 in
     let t = unsigned_takes room bytes a.0 fits a.1 in
     let named = subst (λ (k : ℕ). Takes bytes (unsigned k) a.0.1) (eqb-true a.0.0 2 g.0) t.0 in
@@ -37,8 +37,8 @@ version_takes room bytes rest fits e =
 opened_takes : (room items : ℕ) (bytes rest : List ℕ) → IsBytes bytes → opened_at room items bytes ≡ Ok rest → Takes bytes (array items ++ unsigned 2) rest
 unfolding opened_at body_at
 opened_takes room items bytes rest fits e =
-    let count = bind_ok (array_at room bytes) (λ count. body_at room count.0 bytes count.1 >>= λ body. cond (eqb count.0 items) (Ok body) (refused faults.Type room bytes)) rest e in
-    let body = bind_ok (body_at room count.0.0 bytes count.0.1) (λ body. cond (eqb count.0.0 items) (Ok body) (refused faults.Type room bytes)) rest count.2 in
+    let count = bind_ok (array_at room bytes) _ rest e in
+    let body = bind_ok (body_at room count.0.0 bytes count.0.1) _ rest count.2 in
     let g = guard_past (eqb count.0.0 0) (stopped faults.Type room bytes) (version_at room count.0.1) body.0 body.1 in
     let h = guard_ended (eqb count.0.0 items) (stopped faults.Type room bytes) body.0 rest body.2 in
     let tc = array_takes room bytes count.0 fits count.1 in
@@ -60,14 +60,14 @@ source_takes room bytes x fits e =
 size_takes : (room : ℕ) (bytes : List ℕ) (x : ℕ × List ℕ) → IsBytes bytes → size_at room bytes ≡ Ok x → Takes bytes (unsigned x.0) x.1
 unfolding size_at
 size_takes room bytes x fits e =
-    let a = bind_ok (below_at room (2 ^ 32) bytes) (λ n. cond (eqb n.0 0) (refused faults.Range room bytes) (Ok n)) x e in
+    let a = bind_ok (below_at room (2 ^ 32) bytes) _ x e in
     let g = guard_ok (eqb a.0.0 0) (stopped faults.Range room bytes) a.0 x a.2 in
     subst (λ (y : ℕ × List ℕ). Takes bytes (unsigned y.0) y.1) g.1 (number_takes room (2 ^ 32) bytes a.0 fits a.1).0
 
 height_takes : (room : ℕ) (limits : Limits) (width : ℕ) (bytes : List ℕ) (x : ℕ × List ℕ) → IsBytes bytes → height_at room limits width bytes ≡ Ok x → Takes bytes (unsigned x.0) x.1 × FitsLimits limits width x.0
 unfolding height_at
 height_takes room limits width bytes x fits e =
-    let a = bind_ok (size_at room bytes) (λ n. cond (is_past limits width n.0) (refused faults.Limit room bytes) (Ok n)) x e in
+    let a = bind_ok (size_at room bytes) _ x e in
     let g = guard_ok (is_past limits width a.0.0) (stopped faults.Limit room bytes) a.0 x a.2 in
     subst (λ (y : ℕ × List ℕ). Takes bytes (unsigned y.0) y.1 × FitsLimits limits width y.0) g.1 (size_takes room bytes a.0 fits a.1, fits_of limits width a.0.0 g.0)
 
@@ -111,13 +111,13 @@ pub record HeadFound (limits : Limits) (bytes : List ℕ) (x : Head × List ℕ)
 pub head_takes : (room : ℕ) (limits : Limits) (bytes : List ℕ) (x : Head × List ℕ) → IsBytes bytes → head_at room limits bytes ≡ Ok x → HeadFound limits bytes x
 unfolding head_at
 head_takes room limits bytes x fits e =
-    let body = bind_ok (opened_at room 7 bytes) (λ body. source_at room body >>= λ s. from_source room limits s) x e in
-    let s = bind_ok (source_at room body.0) (λ s. from_source room limits s) x body.2 in
-    let w = bind_ok (size_at room s.0.1) (λ w. from_width room limits s.0.0 w) x s.2 in
-    let h = bind_ok (height_at room limits w.0.0 w.0.1) (λ h. from_height room s.0.0 w.0.0 h) x w.2 in
-    let b = bind_ok (unsigned_at room h.0.1) (λ b. from_base room s.0.0 w.0.0 h.0.0 b) x h.2 in
-    let n = bind_ok (based_number_at room b.0.0 b.0.1) (λ n. from_number room s.0.0 w.0.0 h.0.0 b.0.0 n) x b.2 in
-    let c = bind_ok (list_at room n.0.1) (λ c. ok (record { source = s.0.0; width = w.0.0; height = h.0.0; base = b.0.0; number = n.0.0; count = c.0 }) c.1) x n.2 in
+    let body = bind_ok (opened_at room 7 bytes) _ x e in
+    let s = bind_ok (source_at room body.0) _ x body.2 in
+    let w = bind_ok (size_at room s.0.1) _ x s.2 in
+    let h = bind_ok (height_at room limits w.0.0 w.0.1) _ x w.2 in
+    let b = bind_ok (unsigned_at room h.0.1) _ x h.2 in
+    let n = bind_ok (based_number_at room b.0.0 b.0.1) _ x b.2 in
+    let c = bind_ok (list_at room n.0.1) _ x n.2 in
     let t0 = opened_takes room 7 bytes body.0 fits body.1 in
     let ts = source_takes room body.0 s.0 t0.rest_fits s.1 in
     let tw = size_takes room s.0.1 w.0 ts.0.rest_fits w.1 in
@@ -145,8 +145,8 @@ pub record AnswerFound (measure : List ℕ → ℕ) (limits : Limits) (bytes : L
 pub answer_takes : (measure : List ℕ → ℕ) (room : ℕ) (limits : Limits) (bytes : List ℕ) (x : SentAnswer × List ℕ) → IsBytes bytes → answer_in measure room limits bytes ≡ Ok x → AnswerFound measure limits bytes x
 unfolding answer_in answer
 answer_takes measure room limits bytes x fits e =
-    let head = bind_ok (halted None (head_at room limits bytes)) (λ head. each_at measure room (Some head.0) [] head.0.count head.1 >>= λ changes. ok (sent_of head.0 changes.0) changes.1) x e in
-    let cs = bind_ok (each_at measure room (Some head.0.0) [] head.0.0.count head.0.1) (λ changes. ok (sent_of head.0.0 changes.0) changes.1) x head.2 in
+    let head = bind_ok (halted None (head_at room limits bytes)) _ x e in
+    let cs = bind_ok (each_at measure room (Some head.0.0) [] head.0.0.count head.0.1) _ x head.2 in
     let th = head_takes room limits bytes head.0 fits (halted_ok None (head_at room limits bytes) head.0 head.1) in
     let tc = listed_takes measure room (Some head.0.0) head.0.0.count th.middle head.0.1 cs.0 th.listed th.count cs.1 in
     let all = Takes-then bytes (head_bytes head.0.0) th.middle (changes measure cs.0.0) cs.0.1 th.front tc.0 in
@@ -163,8 +163,8 @@ each_regions measure room head n bytes x fits lt e =
 pub answer_regions : (measure : List ℕ → ℕ) (room : ℕ) (limits : Limits) (bytes : List ℕ) (x : SentAnswer × List ℕ) → IsBytes bytes → answer_in measure room limits bytes ≡ Ok x → regions_fit x.0.answer.height x.0.answer.changes ≡ true
 unfolding answer_in
 answer_regions measure room limits bytes x fits e =
-    let head = bind_ok (halted None (head_at room limits bytes)) (λ head. each_at measure room (Some head.0) [] head.0.count head.1 >>= λ changes. ok (sent_of head.0 changes.0) changes.1) x e in
-    let cs = bind_ok (each_at measure room (Some head.0.0) [] head.0.0.count head.0.1) (λ changes. ok (sent_of head.0.0 changes.0) changes.1) x head.2 in
+    let head = bind_ok (halted None (head_at room limits bytes)) _ x e in
+    let cs = bind_ok (each_at measure room (Some head.0.0) [] head.0.0.count head.0.1) _ x head.2 in
     let th = head_takes room limits bytes head.0 fits (halted_ok None (head_at room limits bytes) head.0 head.1) in
     let tc = listed_takes measure room (Some head.0.0) head.0.0.count th.middle head.0.1 cs.0 th.listed th.count cs.1 in
     subst (λ (y : SentAnswer × List ℕ). regions_fit y.0.answer.height y.0.answer.changes ≡ true) (ok_is {A = SentAnswer × List ℕ} {E = Halt} (sent_of head.0.0 cs.0.0, cs.0.1) x cs.2) (regions_of head.0.0.height cs.0.0 tc.2)
@@ -190,9 +190,9 @@ asked_takes room source bytes x fits e = (let_takes room (λ n. eqb source 0 && 
 pub ask_takes : (room : ℕ) (bytes : List ℕ) (x : Ask × List ℕ) → IsBytes bytes → ask_in room bytes ≡ Ok x → Takes bytes (ask x.0) x.1
 unfolding ask_in ask
 ask_takes room bytes x fits e =
-    let body = bind_ok (opened_at room 3 bytes) (λ body. unsigned_at room body >>= λ s. asked_at room s.0 s.1 >>= λ n. ok (record { source = s.0; number = n.0 }) n.1) x e in
-    let s = bind_ok (unsigned_at room body.0) (λ s. asked_at room s.0 s.1 >>= λ n. ok (record { source = s.0; number = n.0 }) n.1) x body.2 in
-    let n = bind_ok (asked_at room s.0.0 s.0.1) (λ n. ok (record { source = s.0.0; number = n.0 }) n.1) x s.2 in
+    let body = bind_ok (opened_at room 3 bytes) _ x e in
+    let s = bind_ok (unsigned_at room body.0) _ x body.2 in
+    let n = bind_ok (asked_at room s.0.0 s.0.1) _ x s.2 in
     let t0 = opened_takes room 3 bytes body.0 fits body.1 in
     let ts = unsigned_takes room body.0 s.0 t0.rest_fits s.1 in
     let tn = asked_takes room s.0.0 s.0.1 n.0 ts.0.rest_fits n.1 in

@@ -85,7 +85,7 @@ either_ends false f g x y = y
 pub kept_ends : {A : Type 0} {read : List ℕ → Result (A × List ℕ) Stop} (f : FaultKind) (room : ℕ) (rule : A → Bool) → Ends read → Ends (λ bytes. read bytes >>= λ n. cond (rule n.0) (Ok n) (refused f room bytes))
 kept_ends {A = A} {read = read} f room rule first = record {
   leaves = λ bytes x fits e.
-      let a = bind_ok (read bytes) (λ n. cond (rule n.0) (Ok n) (refused f room bytes)) x e in
+      let a = bind_ok (read bytes) _ x e in
       let g = guard_ended (rule a.0.0) (stopped f room bytes) a.0 x a.2 in
       subst (λ (y : A × List ℕ). IsEnd bytes y.1) g.1 (first.leaves bytes a.0 fits a.1);
 }
@@ -216,7 +216,7 @@ unfolding array_of_at array_of_in head_in kind_at
 array_kind room n [] rest e = absurd cc
 array_kind room n (b ∷ bytes) rest e =
     let read = placed_ok (allowed room (b ∷ bytes)) (head_in room 4 (b ∷ bytes) >>= λ x. cond (eqb x.0 n) (Ok x.1) (Err faults.Type)) rest e in
-    let head = bind_ok (head_in room 4 (b ∷ bytes)) (λ x. cond (eqb x.0 n) (Ok x.1) (Err faults.Type)) rest read in
+    let head = bind_ok (head_in room 4 (b ∷ bytes)) _ rest read in
     rw (head_kind room b bytes head.0 head.1) refl
 
 abbrev link_with : LinkPart → List Param → Link
@@ -250,10 +250,10 @@ link_by room bytes start uri implicit count s u i c =
 is_begun : (room : ℕ) (a : Option Attributes) (bytes : List ℕ) (x : LinkPart × List ℕ) → link_part_at room a bytes ≡ Ok x → IsBegun room a bytes x
 unfolding link_part_at
 is_begun room a bytes x e =
-    let start = bind_ok (array_of_at room 3 bytes) (λ start. text_at room start >>= λ uri. boolean_at room uri.1 >>= λ implicit. list_at room implicit.1 >>= λ count. ok (record { attributes = a; uri = uri.0; implicit = implicit.0; params = []; key = None; left = count.0 }) count.1) x e in
-    let uri = bind_ok (text_at room start.0) (λ uri. boolean_at room uri.1 >>= λ implicit. list_at room implicit.1 >>= λ count. ok (record { attributes = a; uri = uri.0; implicit = implicit.0; params = []; key = None; left = count.0 }) count.1) x start.2 in
-    let implicit = bind_ok (boolean_at room uri.0.1) (λ implicit. list_at room implicit.1 >>= λ count. ok (record { attributes = a; uri = uri.0.0; implicit = implicit.0; params = []; key = None; left = count.0 }) count.1) x uri.2 in
-    let count = bind_ok (list_at room implicit.0.1) (λ count. ok (record { attributes = a; uri = uri.0.0; implicit = implicit.0.0; params = []; key = None; left = count.0 }) count.1) x implicit.2 in
+    let start = bind_ok (array_of_at room 3 bytes) _ x e in
+    let uri = bind_ok (text_at room start.0) _ x start.2 in
+    let implicit = bind_ok (boolean_at room uri.0.1) _ x uri.2 in
+    let count = bind_ok (list_at room implicit.0.1) _ x implicit.2 in
     let y : LinkPart × List ℕ = (record { attributes = a; uri = uri.0.0; implicit = implicit.0.0; params = []; key = None; left = count.0.0 }, count.0.1) in
     subst (λ (z : LinkPart × List ℕ). IsBegun room a bytes z) (ok_is {A = LinkPart × List ℕ} y x count.2) (record {
       link = link_by room bytes start.0 uri.0 implicit.0 count.0 start.1 uri.1 implicit.1 count.1;
@@ -273,8 +273,8 @@ alone_by room bytes start rest x s k begun =
 alone_is : (room : ℕ) (bytes : List ℕ) (b : Option Attributes × List ℕ) (x : LinkPart × List ℕ) → link_alone_at room bytes ≡ Ok b → IsBegun room b.0 b.1 x → (attribute_change_at room bytes >>= λ v. ok (changed.Attribute v.0) v.1) ≡ link_rest_at room x.0 x.1
 unfolding link_alone_at
 alone_is room bytes b x e begun =
-    let start = bind_ok (array_of_at room 2 bytes) (λ start. which_at room 10 start >>= λ kind. cond (eqb kind.0 9) (ok None kind.1) (refused faults.Type room kind.1)) b e in
-    let kind = bind_ok (which_at room 10 start.0) (λ kind. cond (eqb kind.0 9) (ok None kind.1) (refused faults.Type room kind.1)) b start.2 in
+    let start = bind_ok (array_of_at room 2 bytes) _ b e in
+    let kind = bind_ok (which_at room 10 start.0) _ b start.2 in
     let g = guard_ended {A = Option Attributes × List ℕ} (eqb kind.0.0 9) (stopped faults.Type room kind.0.1) (None, kind.0.1) b kind.2 in
     let nine : which_at room 10 start.0 ≡ Ok (9, kind.0.1) = kind.1 ∙ ap (λ (k : ℕ). done_at k kind.0.1) (eqb-true kind.0.0 9 g.0) in
     alone_by room bytes start.0 kind.0.1 x start.1 nine (subst (λ (y : Option Attributes × List ℕ). IsBegun room y.0 y.1 x) (sym g.1) begun)
@@ -299,19 +299,19 @@ before_by room bytes start n f b u x s i j k l begun =
 before_is : (room : ℕ) (bytes : List ℕ) (b : Option Attributes × List ℕ) (x : LinkPart × List ℕ) → before_link_at room bytes ≡ Ok b → IsBegun room b.0 b.1 x → (attributes_at room bytes >>= λ v. ok (changed.AllAttributes v.0) v.1) ≡ link_rest_at room x.0 x.1
 unfolding before_link_at
 before_is room bytes made x e begun =
-    let start = bind_ok (array_of_at room 5 bytes) (λ start. style_item_at room start >>= λ n. color_item_at room n.1 >>= λ f. color_item_at room f.1 >>= λ b. color_item_at room b.1 >>= λ u. ok (some_of (attributed n.0 f.0 b.0 u.0)) u.1) made e in
-    let n = bind_ok (style_item_at room start.0) (λ n. color_item_at room n.1 >>= λ f. color_item_at room f.1 >>= λ b. color_item_at room b.1 >>= λ u. ok (some_of (attributed n.0 f.0 b.0 u.0)) u.1) made start.2 in
-    let f = bind_ok (color_item_at room n.0.1) (λ f. color_item_at room f.1 >>= λ b. color_item_at room b.1 >>= λ u. ok (some_of (attributed n.0.0 f.0 b.0 u.0)) u.1) made n.2 in
-    let b = bind_ok (color_item_at room f.0.1) (λ b. color_item_at room b.1 >>= λ u. ok (some_of (attributed n.0.0 f.0.0 b.0 u.0)) u.1) made f.2 in
-    let u = bind_ok (color_item_at room b.0.1) (λ u. ok (some_of (attributed n.0.0 f.0.0 b.0.0 u.0)) u.1) made b.2 in
+    let start = bind_ok (array_of_at room 5 bytes) _ made e in
+    let n = bind_ok (style_item_at room start.0) _ made start.2 in
+    let f = bind_ok (color_item_at room n.0.1) _ made n.2 in
+    let b = bind_ok (color_item_at room f.0.1) _ made f.2 in
+    let u = bind_ok (color_item_at room b.0.1) _ made b.2 in
     let g = ok_is {A = Option Attributes × List ℕ} (some_of (attributed n.0.0 f.0.0 b.0.0 u.0.0), u.0.1) made u.2 in
     before_by room bytes start.0 n.0 f.0 b.0 u.0 x start.1 n.1 f.1 b.1 u.1 (subst (λ (y : Option Attributes × List ℕ). IsBegun room y.0 y.1 x) (sym g) begun)
 
 by_kind : (measure : List ℕ → ℕ) (room : ℕ) (rows : Option ℕ) (count kind : ℕ) (bytes : List ℕ) (b : Option Attributes × List ℕ) (x : LinkPart × List ℕ) → before_link_by room kind bytes ≡ Ok b → IsBegun room b.0 b.1 x → change_by measure room rows count kind bytes ≡ link_rest_at room x.0 x.1
 by_kind measure room rows count kind bytes b x e begun =
-    picks kind 0 (link_alone_at room bytes) (cond (eqb kind 1) (before_link_at room bytes) (refused faults.Type room bytes)) b e
+    picks kind 0 _ _ b e
     (λ is read. rw is (alone_is room bytes b x read begun))
-    (λ more. picks kind 1 (before_link_at room bytes) (refused faults.Type room bytes) b more
+    (λ more. picks kind 1 _ _ b more
     (λ is read. rw is (before_is room bytes b x read begun))
     (λ none. absurd cc))
 
@@ -322,9 +322,9 @@ change_by_parts measure room rows bytes count kind c k = rw (c, k) refl
 pub change_is : (measure : List ℕ → ℕ) (room : ℕ) (rows : Option ℕ) (bytes : List ℕ) (x : LinkPart × List ℕ) → link_begun_at room bytes ≡ Ok x → change_at measure room rows bytes ≡ link_rest_at room x.0 x.1
 unfolding link_begun_at
 change_is measure room rows bytes x e =
-    let count = bind_ok (count_at room bytes) (λ count. change_kind_at room count.0 count.1 >>= λ kind. before_link_by room kind.0 kind.1 >>= λ b. link_part_at room b.0 b.1) x e in
-    let kind = bind_ok (change_kind_at room count.0.0 count.0.1) (λ kind. before_link_by room kind.0 kind.1 >>= λ b. link_part_at room b.0 b.1) x count.2 in
-    let b = bind_ok (before_link_by room kind.0.0 kind.0.1) (λ b. link_part_at room b.0 b.1) x kind.2 in
+    let count = bind_ok (count_at room bytes) _ x e in
+    let kind = bind_ok (change_kind_at room count.0.0 count.0.1) _ x count.2 in
+    let b = bind_ok (before_link_by room kind.0.0 kind.0.1) _ x kind.2 in
     change_by_parts measure room rows bytes count.0 kind.0 count.1 kind.1 ∙ by_kind measure room rows count.0.0 kind.0.0 kind.0.1 b.0 x b.1 (is_begun room b.0.0 b.0.1 x b.2)
 
 -- a screen bears it
@@ -364,12 +364,12 @@ named part ps = ok (link_change part ps.0) ps.1
 
 item_by : (room : ℕ) (part : LinkPart) (key : Option (List ℕ)) (bytes : List ℕ) (x : LinkPart × List ℕ) → has_item_by key part.left ≡ true → link_item_by room part key bytes ≡ Ok x → (params_left_by room part key bytes >>= named part) ≡ link_rest_at room x.0 x.1
 item_by room part None bytes x some e =
-    let k = bind_ok (param_key_at room part.params bytes) (λ key. ok (record part { key = Some key.0; left = part.left - 1 }) key.1) x e in
+    let k = bind_ok (param_key_at room part.params bytes) _ x e in
     let y : LinkPart × List ℕ = (record part { key = Some k.0.0; left = part.left - 1 }, k.0.1) in
     let all : params_at room part.params part.left bytes ≡ params_left room y = ap (λ (n : ℕ). params_at room part.params n bytes) (less_one part.left some) ∙ by_key room part.params (part.left - 1) bytes ∙ ap (λ (r : Result (List ℕ × List ℕ) Stop). r >>= λ key. text_at room key.1 >>= λ value. params_at room (part.params ++ (key.0, value.0) ∷ []) (part.left - 1) value.1) k.1 in
     subst (λ (z : LinkPart × List ℕ). (params_left_by room part None bytes >>= named part) ≡ link_rest_at room z.0 z.1) (ok_is {A = LinkPart × List ℕ} y x k.2) (ap (λ (r : Result (List Param × List ℕ) Stop). r >>= named part) all)
 item_by room part (Some key) bytes x some e =
-    let v = bind_ok (text_at room bytes) (λ value. ok (record part { params = part.params ++ (key, value.0) ∷ []; key = None }) value.1) x e in
+    let v = bind_ok (text_at room bytes) _ x e in
     let y : LinkPart × List ℕ = (record part { params = part.params ++ (key, v.0.0) ∷ []; key = None }, v.0.1) in
     let all : params_left_by room part (Some key) bytes ≡ params_left room y = ap (λ (r : Result (List ℕ × List ℕ) Stop). r >>= λ value. params_at room (part.params ++ (key, value.0) ∷ []) part.left value.1) v.1 in
     subst (λ (z : LinkPart × List ℕ). (params_left_by room part (Some key) bytes >>= named part) ≡ link_rest_at room z.0 z.1) (ok_is {A = LinkPart × List ℕ} y x v.2) (ap (λ (r : Result (List Param × List ℕ) Stop). r >>= named part) all)
@@ -436,11 +436,11 @@ items_left part = items_left_by part.key part.left
 
 fewer_by : (room : ℕ) (part : LinkPart) (key : Option (List ℕ)) (bytes : List ℕ) (x : LinkPart × List ℕ) → has_item_by key part.left ≡ true → link_item_by room part key bytes ≡ Ok x → items_left x.0 < items_left_by key part.left
 fewer_by room part None bytes x some e =
-    let k = bind_ok (param_key_at room part.params bytes) (λ key. ok (record part { key = Some key.0; left = part.left - 1 }) key.1) x e in
+    let k = bind_ok (param_key_at room part.params bytes) _ x e in
     let y : LinkPart × List ℕ = (record part { key = Some k.0.0; left = part.left - 1 }, k.0.1) in
     subst (λ (z : LinkPart × List ℕ). items_left z.0 < 2 * part.left) (ok_is {A = LinkPart × List ℕ} y x k.2) (omega (arith, ltb-true 0 part.left some))
 fewer_by room part (Some key) bytes x some e =
-    let v = bind_ok (text_at room bytes) (λ value. ok (record part { params = part.params ++ (key, value.0) ∷ []; key = None }) value.1) x e in
+    let v = bind_ok (text_at room bytes) _ x e in
     let y : LinkPart × List ℕ = (record part { params = part.params ++ (key, v.0.0) ∷ []; key = None }, v.0.1) in
     subst (λ (z : LinkPart × List ℕ). items_left z.0 < 2 * part.left + 1) (ok_is {A = LinkPart × List ℕ} y x v.2) (omega arith)
 

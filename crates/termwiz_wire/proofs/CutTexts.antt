@@ -72,7 +72,7 @@ list_array : (room : ℕ) (bytes : List ℕ) (x : ℕ × List ℕ) → list_at r
 unfolding list_at list_in array_at
 list_array room bytes x e =
     let read = placed_ok (allowed room bytes) (head_in room 4 bytes >>= λ n. cond (ltb (allowed room n.1) n.0) (Err faults.Limit) (Ok n)) x e in
-    let n = bind_ok (head_in room 4 bytes) (λ n. cond (ltb (allowed room n.1) n.0) (Err faults.Limit) (Ok n)) x read in
+    let n = bind_ok (head_in room 4 bytes) _ x read in
     let g = guard_ok (ltb (allowed room n.0.1) n.0.0) faults.Limit n.0 x n.2 in
     let is : head_in room 4 bytes ≡ Ok x = n.1 ∙ ap (λ (y : ℕ × List ℕ). done {E = FaultKind} y) g.1 in
     ap (fault_placed (allowed room bytes)) is
@@ -80,7 +80,7 @@ list_array room bytes x e =
 is_list : (room : ℕ) (bytes : List ℕ) (x : ℕ × List ℕ) → threes_at room bytes ≡ Ok x → IsList room bytes x
 unfolding threes_at
 is_list room bytes x e =
-    let n = bind_ok (array_at room bytes) (λ n. cond (eqb (n.0 % 3) 0) (list_at room bytes) (refused faults.Type room bytes)) x e in
+    let n = bind_ok (array_at room bytes) _ x e in
     elim (chosen (eqb (n.0.0 % 3) 0) (list_at room bytes) (refused faults.Type room bytes) (Ok x) n.2) [
       | inl a ↦ let array = list_array room bytes x a.1 in let same : n.0 ≡ x = ok_is {A = ℕ × List ℕ} n.0 x (sym n.1 ∙ array) in record { array = array; list = a.1; threes = ap (λ (y : ℕ × List ℕ). eqb (y.0 % 3) 0) (sym same) ∙ a.0 }
       | inr b ↦ absurd (apart faults.Type (allowed room bytes) (refused faults.Type room bytes) x refl b.1)
@@ -98,8 +98,8 @@ record IsOpened (room : ℕ) (bytes start : List ℕ) : Type 0 where
 is_opened : (room : ℕ) (bytes start : List ℕ) → with_pieces_at room bytes ≡ Ok start → IsOpened room bytes start
 unfolding with_pieces_at
 is_opened room bytes start e =
-    let count = bind_ok (count_at room bytes) (λ count. change_kind_at room count.0 count.1 >>= λ kind. cond (eqb kind.0 2 && eqb count.0 3) (Ok kind.1) (refused faults.Type room kind.1)) start e in
-    let kind = bind_ok (change_kind_at room count.0.0 count.0.1) (λ kind. cond (eqb kind.0 2 && eqb count.0.0 3) (Ok kind.1) (refused faults.Type room kind.1)) start count.2 in
+    let count = bind_ok (count_at room bytes) _ start e in
+    let kind = bind_ok (change_kind_at room count.0.0 count.0.1) _ start count.2 in
     let g = guard_ended {A = List ℕ} (eqb kind.0.0 2 && eqb count.0.0 3) (stopped faults.Type room kind.0.1) kind.0.1 start kind.2 in
     record { count = count.0; kind = kind.0; counts = count.1; kinds = kind.1; is = g.0; rest = g.1 }
 

@@ -114,7 +114,7 @@ pub record ChangesFound (measure : List ℕ → ℕ) (head : Option Head) (made 
 next_takes : (measure : List ℕ → ℕ) (room : ℕ) (head : Option Head) (spent : ℕ) (bytes : List ℕ) (x : ChangeValue × List ℕ) → next_at measure room head spent bytes ≡ Ok x → (change_at measure room (head_rows head) bytes ≡ Ok x) × (bears head spent x.0 ≡ true)
 unfolding next_at
 next_takes measure room head spent bytes x e =
-    let c = bind_ok (change_at measure room (head_rows head) bytes) (λ c. cond (bears head spent c.0) (Ok c) (refused faults.Limit room bytes)) x e in
+    let c = bind_ok (change_at measure room (head_rows head) bytes) _ x e in
     let g = guard_ended (bears head spent c.0.0) (stopped faults.Limit room bytes) c.0 x c.2 in
     subst (λ (y : ChangeValue × List ℕ). (change_at measure room (head_rows head) bytes ≡ Ok y) × (bears head spent y.0 ≡ true)) g.1 (c.1, g.0)
 
@@ -129,7 +129,7 @@ each_takes measure room head zero made bytes x fits e =
     (record { changes = []; made_is = sym (append-nil made); count = refl; taken = record { parts = refl; rest_fits = fits }; each = tt; on = tt; borne = λ is. is })
 each_takes measure room head (suc n) made bytes x fits e =
     let spent : ℕ = spent_on head made in
-    let first = bind_ok (halted (Some (length made)) (next_at measure room head spent bytes)) (λ c. each_at measure room head (made ++ c.0 ∷ []) n c.1) x e in
+    let first = bind_ok (halted (Some (length made)) (next_at measure room head spent bytes)) _ x e in
     let next = next_takes measure room head spent bytes first.0 (halted_ok (Some (length made)) (next_at measure room head spent bytes) first.0 first.1) in
     let t = change_takes measure room (head_rows head) bytes first.0 fits next.0 in
     let c : ChangeValue = first.0.0 in
@@ -158,6 +158,6 @@ listed_takes measure room head n before bytes x opened lt e =
 pub changes_takes : (measure : List ℕ → ℕ) (room : ℕ) (bytes : List ℕ) (x : List ChangeValue × List ℕ) → IsBytes bytes → changes_in measure room None bytes ≡ Ok x → Takes bytes (changes measure x.0) x.1
 unfolding changes_in
 changes_takes measure room bytes x fits e =
-    let n = bind_ok (halted None (list_at room bytes)) (λ n. each_at measure room None [] n.0 n.1) x e in
+    let n = bind_ok (halted None (list_at room bytes)) _ x e in
     let tn = list_takes room bytes n.0 fits (halted_ok None (list_at room bytes) n.0 n.1) in
     (listed_takes measure room None n.0.0 bytes n.0.1 x tn.0 tn.1 n.2).0

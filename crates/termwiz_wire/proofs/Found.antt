@@ -54,9 +54,9 @@ palette_takes room bytes x fits e =
 rgb_takes : (room : ℕ) (before bytes : List ℕ) (x : ColorAttribute × List ℕ) → Takes before (array 3) bytes → rgb_item_at room bytes ≡ Ok x → ColorFound before x
 unfolding rgb_item_at color
 rgb_takes room before bytes x first e =
-    let r = bind_ok (below_at room 256 bytes) (λ r. below_at room 256 r.1 >>= λ g. below_at room 256 g.1 >>= λ b. ok (colors.TrueColorWithDefaultFallback (rgb r.0 g.0 b.0)) b.1) x e in
-    let g = bind_ok (below_at room 256 r.0.1) (λ g. below_at room 256 g.1 >>= λ b. ok (colors.TrueColorWithDefaultFallback (rgb r.0.0 g.0 b.0)) b.1) x r.2 in
-    let b = bind_ok (below_at room 256 g.0.1) (λ b. ok (colors.TrueColorWithDefaultFallback (rgb r.0.0 g.0.0 b.0)) b.1) x g.2 in
+    let r = bind_ok (below_at room 256 bytes) _ x e in
+    let g = bind_ok (below_at room 256 r.0.1) _ x r.2 in
+    let b = bind_ok (below_at room 256 g.0.1) _ x g.2 in
     let tr = number_takes room 256 bytes r.0 first.rest_fits r.1 in
     let tg = number_takes room 256 r.0.1 g.0 tr.0.rest_fits g.1 in
     let tb = number_takes room 256 g.0.1 b.0 tg.0.rest_fits b.1 in
@@ -68,10 +68,10 @@ rgb_takes room before bytes x first e =
 rgb_palette_takes : (room : ℕ) (before bytes : List ℕ) (x : ColorAttribute × List ℕ) → Takes before (array 4) bytes → rgb_palette_at room bytes ≡ Ok x → ColorFound before x
 unfolding rgb_palette_at color
 rgb_palette_takes room before bytes x first e =
-    let r = bind_ok (below_at room 256 bytes) (λ r. below_at room 256 r.1 >>= λ g. below_at room 256 g.1 >>= λ b. below_at room 256 b.1 >>= λ i. ok (colors.TrueColorWithPaletteFallback (rgb r.0 g.0 b.0) i.0) i.1) x e in
-    let g = bind_ok (below_at room 256 r.0.1) (λ g. below_at room 256 g.1 >>= λ b. below_at room 256 b.1 >>= λ i. ok (colors.TrueColorWithPaletteFallback (rgb r.0.0 g.0 b.0) i.0) i.1) x r.2 in
-    let b = bind_ok (below_at room 256 g.0.1) (λ b. below_at room 256 b.1 >>= λ i. ok (colors.TrueColorWithPaletteFallback (rgb r.0.0 g.0.0 b.0) i.0) i.1) x g.2 in
-    let i = bind_ok (below_at room 256 b.0.1) (λ i. ok (colors.TrueColorWithPaletteFallback (rgb r.0.0 g.0.0 b.0.0) i.0) i.1) x b.2 in
+    let r = bind_ok (below_at room 256 bytes) _ x e in
+    let g = bind_ok (below_at room 256 r.0.1) _ x r.2 in
+    let b = bind_ok (below_at room 256 g.0.1) _ x g.2 in
+    let i = bind_ok (below_at room 256 b.0.1) _ x b.2 in
     let tr = number_takes room 256 bytes r.0 first.rest_fits r.1 in
     let tg = number_takes room 256 r.0.1 g.0 tr.0.rest_fits g.1 in
     let tb = number_takes room 256 g.0.1 b.0 tg.0.rest_fits b.1 in
@@ -85,16 +85,16 @@ rgb_palette_takes room before bytes x first e =
 default_takes : (room : ℕ) (bytes : List ℕ) (x : ColorAttribute × List ℕ) → IsBytes bytes → (null_at room bytes >>= λ rest. ok colors.Default rest) ≡ Ok x → ColorFound bytes x
 unfolding color
 default_takes room bytes x fits e =
-    let a = bind_ok (null_at room bytes) (λ rest. ok colors.Default rest) x e in
+    let a = bind_ok (null_at room bytes) _ x e in
     subst (λ (y : ColorAttribute × List ℕ). ColorFound bytes y) (ok_is (colors.Default, a.0) x a.2) (null_takes room bytes a.0 fits a.1, tt)
 
 color_array_takes : (room : ℕ) (bytes : List ℕ) (x : ColorAttribute × List ℕ) → IsBytes bytes → color_by room kinds.Array bytes ≡ Ok x → ColorFound bytes x
 color_array_takes room bytes x fits e =
-    let a = bind_ok (array_at room bytes) (λ n. cond (eqb n.0 3) (rgb_item_at room n.1) (cond (eqb n.0 4) (rgb_palette_at room n.1) (refused faults.Type room bytes))) x e in
+    let a = bind_ok (array_at room bytes) _ x e in
     let t = array_takes room bytes a.0 fits a.1 in
-    picks a.0.0 3 (rgb_item_at room a.0.1) (cond (eqb a.0.0 4) (rgb_palette_at room a.0.1) (refused faults.Type room bytes)) x a.2
+    picks a.0.0 3 _ _ x a.2
     (λ is read. rgb_takes room bytes a.0.1 x (subst (λ (k : ℕ). Takes bytes (array k) a.0.1) is t.0) read)
-    (λ more. picks a.0.0 4 (rgb_palette_at room a.0.1) (refused faults.Type room bytes) x more
+    (λ more. picks a.0.0 4 _ _ x more
     (λ is read. rgb_palette_takes room bytes a.0.1 x (subst (λ (k : ℕ). Takes bytes (array k) a.0.1) is t.0) read)
     (λ none. never (stopped faults.Type room bytes) x none))
 
@@ -110,7 +110,7 @@ color_by_takes room kinds.Other bytes x fits e = never (stopped faults.Type room
 pub color_takes : (room : ℕ) (bytes : List ℕ) (x : ColorAttribute × List ℕ) → IsBytes bytes → color_item_at room bytes ≡ Ok x → ColorFound bytes x
 unfolding color_item_at
 color_takes room bytes x fits e =
-    let a = bind_ok (kind_at room bytes) (λ k. color_by room k bytes) x e in
+    let a = bind_ok (kind_at room bytes) _ x e in
     color_by_takes room a.0 bytes x fits a.2
 
 -- ---- links
@@ -121,7 +121,7 @@ Param = List ℕ × List ℕ
 key_takes : (room : ℕ) (made : List Param) (bytes : List ℕ) (x : List ℕ × List ℕ) → IsBytes bytes → key_at room made bytes ≡ Ok x → Takes bytes (text x.0) x.1 × IsText x.0 × (ascends made x.0 ≡ true)
 unfolding key_at
 key_takes room made bytes x fits e =
-    let a = bind_ok (text_at room bytes) (λ key. cond (ascends made key.0) (Ok key) (refused faults.Range room bytes)) x e in
+    let a = bind_ok (text_at room bytes) _ x e in
     let g = guard_ended (ascends made a.0.0) (stopped faults.Range room bytes) a.0 x a.2 in
     let t = text_takes room bytes a.0 fits a.1 in
     subst (λ (y : List ℕ × List ℕ). Takes bytes (text y.0) y.1 × IsText y.0 × (ascends made y.0 ≡ true)) g.1 (t.0, t.1, g.0)
@@ -129,9 +129,9 @@ key_takes room made bytes x fits e =
 param_takes : (room : ℕ) (made : List Param) (bytes : List ℕ) (x : Param × List ℕ) → IsBytes bytes → param_item_at room made bytes ≡ Ok x → Takes bytes (param x.0) x.1 × IsParam x.0 × (ascends made x.0.0 ≡ true)
 unfolding param_item_at param
 param_takes room made bytes x fits e =
-    let start = bind_ok (array_of_at room 2 bytes) (λ start. key_at room made start >>= λ key. text_at room key.1 >>= λ value. ok (key.0, value.0) value.1) x e in
-    let key = bind_ok (key_at room made start.0) (λ key. text_at room key.1 >>= λ value. ok (key.0, value.0) value.1) x start.2 in
-    let value = bind_ok (text_at room key.0.1) (λ value. ok (key.0.0, value.0) value.1) x key.2 in
+    let start = bind_ok (array_of_at room 2 bytes) _ x e in
+    let key = bind_ok (key_at room made start.0) _ x start.2 in
+    let value = bind_ok (text_at room key.0.1) _ x key.2 in
     let ts = array_of_takes room 2 bytes start.0 fits start.1 in
     let tk = key_takes room made start.0 key.0 ts.rest_fits key.1 in
     let tv = text_takes room key.0.1 value.0 tk.0.rest_fits value.1 in
@@ -153,7 +153,7 @@ params_takes room zero made bytes x fits ordered e =
     subst (λ (y : List Param × List ℕ). ParamsFound made zero bytes y) (ok_is (made, bytes) x e)
     (record { params = []; made_is = sym (append-nil made); count = refl; taken = record { parts = refl; rest_fits = fits }; each = tt; ordered = ordered })
 params_takes room (suc n) made bytes x fits ordered e =
-    let first = bind_ok (param_item_at room made bytes) (λ p. params_at room (made ++ p.0 ∷ []) n p.1) x e in
+    let first = bind_ok (param_item_at room made bytes) _ x e in
     let t = param_takes room made bytes first.0 fits first.1 in
     let p : Param = first.0.0 in
     let more = params_takes room n (made ++ p ∷ []) first.0.1 x t.0.rest_fits (order-push made p ordered t.2) first.2 in
@@ -173,11 +173,11 @@ no_params = tt
 link_takes : (room : ℕ) (bytes : List ℕ) (x : Link × List ℕ) → IsBytes bytes → link_at room bytes ≡ Ok x → Takes bytes (link x.0) x.1 × IsLink x.0
 unfolding link_at link
 link_takes room bytes x fits e =
-    let start = bind_ok (array_of_at room 3 bytes) (λ start. text_at room start >>= λ uri. boolean_at room uri.1 >>= λ implicit. list_at room implicit.1 >>= λ count. params_at room [] count.0 count.1 >>= λ params. ok (record { uri = uri.0; params = params.0; implicit = implicit.0 }) params.1) x e in
-    let uri = bind_ok (text_at room start.0) (λ uri. boolean_at room uri.1 >>= λ implicit. list_at room implicit.1 >>= λ count. params_at room [] count.0 count.1 >>= λ params. ok (record { uri = uri.0; params = params.0; implicit = implicit.0 }) params.1) x start.2 in
-    let implicit = bind_ok (boolean_at room uri.0.1) (λ implicit. list_at room implicit.1 >>= λ count. params_at room [] count.0 count.1 >>= λ params. ok (record { uri = uri.0.0; params = params.0; implicit = implicit.0 }) params.1) x uri.2 in
-    let count = bind_ok (list_at room implicit.0.1) (λ count. params_at room [] count.0 count.1 >>= λ params. ok (record { uri = uri.0.0; params = params.0; implicit = implicit.0.0 }) params.1) x implicit.2 in
-    let params = bind_ok (params_at room [] count.0.0 count.0.1) (λ params. ok (record { uri = uri.0.0; params = params.0; implicit = implicit.0.0 }) params.1) x count.2 in
+    let start = bind_ok (array_of_at room 3 bytes) _ x e in
+    let uri = bind_ok (text_at room start.0) _ x start.2 in
+    let implicit = bind_ok (boolean_at room uri.0.1) _ x uri.2 in
+    let count = bind_ok (list_at room implicit.0.1) _ x implicit.2 in
+    let params = bind_ok (params_at room [] count.0.0 count.0.1) _ x count.2 in
     let ts = array_of_takes room 3 bytes start.0 fits start.1 in
     let tu = text_takes room start.0 uri.0 ts.rest_fits uri.1 in
     let ti = boolean_takes room uri.0.1 implicit.0 tu.0.rest_fits implicit.1 in
@@ -199,7 +199,7 @@ OptionalFound bytes x = Takes bytes (optional_link x.0) x.1 × IsOptionalLink x.
 
 optional_link_by_takes : (room : ℕ) (k : Kind) (bytes : List ℕ) (x : Option Link × List ℕ) → IsBytes bytes → optional_link_by room k bytes ≡ Ok x → OptionalFound bytes x
 optional_link_by_takes room kinds.Null bytes x fits e =
-    let a = bind_ok (null_at room bytes) (λ rest. ok None rest) x e in
+    let a = bind_ok (null_at room bytes) _ x e in
     subst (λ (y : Option Link × List ℕ). OptionalFound bytes y) (ok_is (None, a.0) x a.2) (null_takes room bytes a.0 fits a.1, tt)
 optional_link_by_takes room kinds.Array bytes x fits e =
     let a = mapped (link_at room bytes) Some x e in
@@ -213,7 +213,7 @@ optional_link_by_takes room kinds.Other bytes x fits e = never (stopped faults.T
 optional_link_takes : (room : ℕ) (bytes : List ℕ) (x : Option Link × List ℕ) → IsBytes bytes → optional_link_at room bytes ≡ Ok x → OptionalFound bytes x
 unfolding optional_link_at
 optional_link_takes room bytes x fits e =
-    let a = bind_ok (kind_at room bytes) (λ k. optional_link_by room k bytes) x e in
+    let a = bind_ok (kind_at room bytes) _ x e in
     optional_link_by_takes room a.0 bytes x fits a.2
 
 -- ---- attributes
@@ -224,12 +224,12 @@ attributed n f b u l = record (styled n) { foreground = f; background = b; under
 attributes_takes : (room : ℕ) (bytes : List ℕ) (x : Attributes × List ℕ) → IsBytes bytes → attributes_at room bytes ≡ Ok x → Takes bytes (attributes x.0) x.1 × AreAttributes x.0
 unfolding attributes_at attributes
 attributes_takes room bytes x fits e =
-    let start = bind_ok (array_of_at room 5 bytes) (λ start. style_item_at room start >>= λ n. color_item_at room n.1 >>= λ f. color_item_at room f.1 >>= λ b. color_item_at room b.1 >>= λ u. optional_link_at room u.1 >>= λ l. ok (attributed n.0 f.0 b.0 u.0 l.0) l.1) x e in
-    let n = bind_ok (style_item_at room start.0) (λ n. color_item_at room n.1 >>= λ f. color_item_at room f.1 >>= λ b. color_item_at room b.1 >>= λ u. optional_link_at room u.1 >>= λ l. ok (attributed n.0 f.0 b.0 u.0 l.0) l.1) x start.2 in
-    let f = bind_ok (color_item_at room n.0.1) (λ f. color_item_at room f.1 >>= λ b. color_item_at room b.1 >>= λ u. optional_link_at room u.1 >>= λ l. ok (attributed n.0.0 f.0 b.0 u.0 l.0) l.1) x n.2 in
-    let b = bind_ok (color_item_at room f.0.1) (λ b. color_item_at room b.1 >>= λ u. optional_link_at room u.1 >>= λ l. ok (attributed n.0.0 f.0.0 b.0 u.0 l.0) l.1) x f.2 in
-    let u = bind_ok (color_item_at room b.0.1) (λ u. optional_link_at room u.1 >>= λ l. ok (attributed n.0.0 f.0.0 b.0.0 u.0 l.0) l.1) x b.2 in
-    let l = bind_ok (optional_link_at room u.0.1) (λ l. ok (attributed n.0.0 f.0.0 b.0.0 u.0.0 l.0) l.1) x u.2 in
+    let start = bind_ok (array_of_at room 5 bytes) _ x e in
+    let n = bind_ok (style_item_at room start.0) _ x start.2 in
+    let f = bind_ok (color_item_at room n.0.1) _ x n.2 in
+    let b = bind_ok (color_item_at room f.0.1) _ x f.2 in
+    let u = bind_ok (color_item_at room b.0.1) _ x b.2 in
+    let l = bind_ok (optional_link_at room u.0.1) _ x u.2 in
     let ts = array_of_takes room 5 bytes start.0 fits start.1 in
     let tn = style_takes room start.0 n.0 ts.rest_fits n.1 in
     let tf = color_takes room n.0.1 f.0 tn.0.rest_fits f.1 in
@@ -264,33 +264,33 @@ number_found room limit number bytes v fits back e =
 attribute_value_takes : (room : ℕ) (kind : ℕ) (bytes : List ℕ) (x : AttributeChangeValue × List ℕ) → IsBytes bytes → attribute_change_by room kind bytes ≡ Ok x → ValueFound kind bytes x
 unfolding attribute_value
 attribute_value_takes room kind bytes x fits e =
-    picks kind 0 (below_at room 3 bytes >>= λ v. ok (attribute.Intensity (intensity_at v.0)) v.1) (cond (eqb kind 1) (below_at room 6 bytes >>= λ v. ok (attribute.Underline (underline_at v.0)) v.1) (cond (eqb kind 2) (boolean_at room bytes >>= λ v. ok (attribute.Italic v.0) v.1) (cond (eqb kind 3) (below_at room 3 bytes >>= λ v. ok (attribute.Blink (blink_at v.0)) v.1) (cond (eqb kind 4) (boolean_at room bytes >>= λ v. ok (attribute.Reverse v.0) v.1) (cond (eqb kind 5) (boolean_at room bytes >>= λ v. ok (attribute.StrikeThrough v.0) v.1) (cond (eqb kind 6) (boolean_at room bytes >>= λ v. ok (attribute.Invisible v.0) v.1) (cond (eqb kind 7) (color_item_at room bytes >>= λ v. ok (attribute.Foreground v.0) v.1) (cond (eqb kind 8) (color_item_at room bytes >>= λ v. ok (attribute.Background v.0) v.1) (cond (eqb kind 9) (optional_link_at room bytes >>= λ v. ok (attribute.Hyperlink v.0) v.1) (refused faults.Type room bytes)))))))))) x e
+    picks kind 0 _ _ x e
     (λ is read. value_found kind 0 bytes (below_at room 3 bytes) (λ v. attribute.Intensity (intensity_at v)) x is read (λ v found. (number_found room 3 (λ n. intensity_number (intensity_at n)) bytes v fits intensity-found found, refl, tt)))
-    (λ more. picks kind 1 (below_at room 6 bytes >>= λ v. ok (attribute.Underline (underline_at v.0)) v.1) (cond (eqb kind 2) (boolean_at room bytes >>= λ v. ok (attribute.Italic v.0) v.1) (cond (eqb kind 3) (below_at room 3 bytes >>= λ v. ok (attribute.Blink (blink_at v.0)) v.1) (cond (eqb kind 4) (boolean_at room bytes >>= λ v. ok (attribute.Reverse v.0) v.1) (cond (eqb kind 5) (boolean_at room bytes >>= λ v. ok (attribute.StrikeThrough v.0) v.1) (cond (eqb kind 6) (boolean_at room bytes >>= λ v. ok (attribute.Invisible v.0) v.1) (cond (eqb kind 7) (color_item_at room bytes >>= λ v. ok (attribute.Foreground v.0) v.1) (cond (eqb kind 8) (color_item_at room bytes >>= λ v. ok (attribute.Background v.0) v.1) (cond (eqb kind 9) (optional_link_at room bytes >>= λ v. ok (attribute.Hyperlink v.0) v.1) (refused faults.Type room bytes))))))))) x more
+    (λ more. picks kind 1 _ _ x more
     (λ is read. value_found kind 1 bytes (below_at room 6 bytes) (λ v. attribute.Underline (underline_at v)) x is read (λ v found. (number_found room 6 (λ n. underline_number (underline_at n)) bytes v fits underline-found found, refl, tt)))
-    (λ more. picks kind 2 (boolean_at room bytes >>= λ v. ok (attribute.Italic v.0) v.1) (cond (eqb kind 3) (below_at room 3 bytes >>= λ v. ok (attribute.Blink (blink_at v.0)) v.1) (cond (eqb kind 4) (boolean_at room bytes >>= λ v. ok (attribute.Reverse v.0) v.1) (cond (eqb kind 5) (boolean_at room bytes >>= λ v. ok (attribute.StrikeThrough v.0) v.1) (cond (eqb kind 6) (boolean_at room bytes >>= λ v. ok (attribute.Invisible v.0) v.1) (cond (eqb kind 7) (color_item_at room bytes >>= λ v. ok (attribute.Foreground v.0) v.1) (cond (eqb kind 8) (color_item_at room bytes >>= λ v. ok (attribute.Background v.0) v.1) (cond (eqb kind 9) (optional_link_at room bytes >>= λ v. ok (attribute.Hyperlink v.0) v.1) (refused faults.Type room bytes)))))))) x more
+    (λ more. picks kind 2 _ _ x more
     (λ is read. value_found kind 2 bytes (boolean_at room bytes) attribute.Italic x is read (λ v found. (boolean_takes room bytes v fits found, refl, tt)))
-    (λ more. picks kind 3 (below_at room 3 bytes >>= λ v. ok (attribute.Blink (blink_at v.0)) v.1) (cond (eqb kind 4) (boolean_at room bytes >>= λ v. ok (attribute.Reverse v.0) v.1) (cond (eqb kind 5) (boolean_at room bytes >>= λ v. ok (attribute.StrikeThrough v.0) v.1) (cond (eqb kind 6) (boolean_at room bytes >>= λ v. ok (attribute.Invisible v.0) v.1) (cond (eqb kind 7) (color_item_at room bytes >>= λ v. ok (attribute.Foreground v.0) v.1) (cond (eqb kind 8) (color_item_at room bytes >>= λ v. ok (attribute.Background v.0) v.1) (cond (eqb kind 9) (optional_link_at room bytes >>= λ v. ok (attribute.Hyperlink v.0) v.1) (refused faults.Type room bytes))))))) x more
+    (λ more. picks kind 3 _ _ x more
     (λ is read. value_found kind 3 bytes (below_at room 3 bytes) (λ v. attribute.Blink (blink_at v)) x is read (λ v found. (number_found room 3 (λ n. blink_number (blink_at n)) bytes v fits blink-found found, refl, tt)))
-    (λ more. picks kind 4 (boolean_at room bytes >>= λ v. ok (attribute.Reverse v.0) v.1) (cond (eqb kind 5) (boolean_at room bytes >>= λ v. ok (attribute.StrikeThrough v.0) v.1) (cond (eqb kind 6) (boolean_at room bytes >>= λ v. ok (attribute.Invisible v.0) v.1) (cond (eqb kind 7) (color_item_at room bytes >>= λ v. ok (attribute.Foreground v.0) v.1) (cond (eqb kind 8) (color_item_at room bytes >>= λ v. ok (attribute.Background v.0) v.1) (cond (eqb kind 9) (optional_link_at room bytes >>= λ v. ok (attribute.Hyperlink v.0) v.1) (refused faults.Type room bytes)))))) x more
+    (λ more. picks kind 4 _ _ x more
     (λ is read. value_found kind 4 bytes (boolean_at room bytes) attribute.Reverse x is read (λ v found. (boolean_takes room bytes v fits found, refl, tt)))
-    (λ more. picks kind 5 (boolean_at room bytes >>= λ v. ok (attribute.StrikeThrough v.0) v.1) (cond (eqb kind 6) (boolean_at room bytes >>= λ v. ok (attribute.Invisible v.0) v.1) (cond (eqb kind 7) (color_item_at room bytes >>= λ v. ok (attribute.Foreground v.0) v.1) (cond (eqb kind 8) (color_item_at room bytes >>= λ v. ok (attribute.Background v.0) v.1) (cond (eqb kind 9) (optional_link_at room bytes >>= λ v. ok (attribute.Hyperlink v.0) v.1) (refused faults.Type room bytes))))) x more
+    (λ more. picks kind 5 _ _ x more
     (λ is read. value_found kind 5 bytes (boolean_at room bytes) attribute.StrikeThrough x is read (λ v found. (boolean_takes room bytes v fits found, refl, tt)))
-    (λ more. picks kind 6 (boolean_at room bytes >>= λ v. ok (attribute.Invisible v.0) v.1) (cond (eqb kind 7) (color_item_at room bytes >>= λ v. ok (attribute.Foreground v.0) v.1) (cond (eqb kind 8) (color_item_at room bytes >>= λ v. ok (attribute.Background v.0) v.1) (cond (eqb kind 9) (optional_link_at room bytes >>= λ v. ok (attribute.Hyperlink v.0) v.1) (refused faults.Type room bytes)))) x more
+    (λ more. picks kind 6 _ _ x more
     (λ is read. value_found kind 6 bytes (boolean_at room bytes) attribute.Invisible x is read (λ v found. (boolean_takes room bytes v fits found, refl, tt)))
-    (λ more. picks kind 7 (color_item_at room bytes >>= λ v. ok (attribute.Foreground v.0) v.1) (cond (eqb kind 8) (color_item_at room bytes >>= λ v. ok (attribute.Background v.0) v.1) (cond (eqb kind 9) (optional_link_at room bytes >>= λ v. ok (attribute.Hyperlink v.0) v.1) (refused faults.Type room bytes))) x more
+    (λ more. picks kind 7 _ _ x more
     (λ is read. value_found kind 7 bytes (color_item_at room bytes) attribute.Foreground x is read (λ v found. let t = color_takes room bytes v fits found in (t.0, refl, t.1)))
-    (λ more. picks kind 8 (color_item_at room bytes >>= λ v. ok (attribute.Background v.0) v.1) (cond (eqb kind 9) (optional_link_at room bytes >>= λ v. ok (attribute.Hyperlink v.0) v.1) (refused faults.Type room bytes)) x more
+    (λ more. picks kind 8 _ _ x more
     (λ is read. value_found kind 8 bytes (color_item_at room bytes) attribute.Background x is read (λ v found. let t = color_takes room bytes v fits found in (t.0, refl, t.1)))
-    (λ more. picks kind 9 (optional_link_at room bytes >>= λ v. ok (attribute.Hyperlink v.0) v.1) (refused faults.Type room bytes) x more
+    (λ more. picks kind 9 _ _ x more
     (λ is read. value_found kind 9 bytes (optional_link_at room bytes) attribute.Hyperlink x is read (λ v found. let t = optional_link_takes room bytes v fits found in (t.0, refl, t.1)))
     (λ none. never (stopped faults.Type room bytes) x none))))))))))
 
 attribute_change_takes : (room : ℕ) (bytes : List ℕ) (x : AttributeChangeValue × List ℕ) → IsBytes bytes → attribute_change_at room bytes ≡ Ok x → Takes bytes (attribute_change x.0) x.1 × IsAttributeChange x.0
 unfolding attribute_change_at
 attribute_change_takes room bytes x fits e =
-    let start = bind_ok (array_of_at room 2 bytes) (λ start. which_at room 10 start >>= λ kind. attribute_change_by room kind.0 kind.1) x e in
-    let kind = bind_ok (which_at room 10 start.0) (λ kind. attribute_change_by room kind.0 kind.1) x start.2 in
+    let start = bind_ok (array_of_at room 2 bytes) _ x e in
+    let kind = bind_ok (which_at room 10 start.0) _ x start.2 in
     let ts = array_of_takes room 2 bytes start.0 fits start.1 in
     let tk = which_takes room 10 start.0 kind.0 ts.rest_fits kind.1 in
     let tv = attribute_value_takes room kind.0.0 kind.0.1 x tk.0.rest_fits kind.2 in
@@ -303,23 +303,23 @@ attribute_change_takes room bytes x fits e =
 position_takes : (room : ℕ) (bytes : List ℕ) (x : Position × List ℕ) → IsBytes bytes → position_at room bytes ≡ Ok x → Takes bytes (position x.0) x.1 × IsPosition x.0
 unfolding position_at position
 position_takes room bytes x fits e =
-    let start = bind_ok (array_of_at room 2 bytes) (λ start. which_at room 3 start >>= λ kind. position_by room kind.0 kind.1) x e in
-    let kind = bind_ok (which_at room 3 start.0) (λ kind. position_by room kind.0 kind.1) x start.2 in
+    let start = bind_ok (array_of_at room 2 bytes) _ x e in
+    let kind = bind_ok (which_at room 3 start.0) _ x start.2 in
     let ts = array_of_takes room 2 bytes start.0 fits start.1 in
     let tk = which_takes room 3 start.0 kind.0 ts.rest_fits kind.1 in
     let k1 = Takes-then bytes (array 2) start.0 (unsigned kind.0.0) kind.0.1 ts tk.0 in
     let P = λ (y : Position × List ℕ). Takes bytes (position y.0) y.1 × IsPosition y.0 in
-    picks kind.0.0 0 (signed_at room kind.0.1 >>= λ n. ok (Relative n.0) n.1) (cond (eqb kind.0.0 1) (unsigned_at room kind.0.1 >>= λ n. ok (Absolute n.0) n.1) (cond (eqb kind.0.0 2) (unsigned_at room kind.0.1 >>= λ n. ok (EndRelative n.0) n.1) (refused faults.Type room kind.0.1))) x kind.2
+    picks kind.0.0 0 _ _ x kind.2
     (λ is read. let v = mapped (signed_at room kind.0.1) Relative x read in
     let t = signed_takes room kind.0.1 v.0 tk.0.rest_fits v.1 in
     let named = subst (λ (k : ℕ). Takes bytes (array 2 ++ unsigned k) kind.0.1) is k1 in
     subst P v.2 (Takes-then bytes (array 2 ++ unsigned 0) kind.0.1 (signed v.0.0) v.0.1 named t.0, t.1))
-    (λ more. picks kind.0.0 1 (unsigned_at room kind.0.1 >>= λ n. ok (Absolute n.0) n.1) (cond (eqb kind.0.0 2) (unsigned_at room kind.0.1 >>= λ n. ok (EndRelative n.0) n.1) (refused faults.Type room kind.0.1)) x more
+    (λ more. picks kind.0.0 1 _ _ x more
     (λ is read. let v = mapped (unsigned_at room kind.0.1) Absolute x read in
     let t = unsigned_takes room kind.0.1 v.0 tk.0.rest_fits v.1 in
     let named = subst (λ (k : ℕ). Takes bytes (array 2 ++ unsigned k) kind.0.1) is k1 in
     subst P v.2 (Takes-then bytes (array 2 ++ unsigned 1) kind.0.1 (unsigned v.0.0) v.0.1 named t.0, t.1))
-    (λ more. picks kind.0.0 2 (unsigned_at room kind.0.1 >>= λ n. ok (EndRelative n.0) n.1) (refused faults.Type room kind.0.1) x more
+    (λ more. picks kind.0.0 2 _ _ x more
     (λ is read. let v = mapped (unsigned_at room kind.0.1) EndRelative x read in
     let t = unsigned_takes room kind.0.1 v.0 tk.0.rest_fits v.1 in
     let named = subst (λ (k : ℕ). Takes bytes (array 2 ++ unsigned k) kind.0.1) is k1 in
@@ -347,8 +347,8 @@ record ValuesFound (measure : List ℕ → ℕ) (rows : Option ℕ) (count kind 
 place_takes : (measure : List ℕ → ℕ) (room : ℕ) (rows : Option ℕ) (count : ℕ) (bytes : List ℕ) (x : ChangeValue × List ℕ) → IsBytes bytes → place_at room bytes ≡ Ok x → ValuesFound measure rows count 6 bytes x
 unfolding place_at change_values
 place_takes measure room rows count bytes x fits e =
-    let a = bind_ok (position_at room bytes) (λ a. position_at room a.1 >>= λ b. ok (changed.CursorPosition a.0 b.0) b.1) x e in
-    let b = bind_ok (position_at room a.0.1) (λ b. ok (changed.CursorPosition a.0.0 b.0) b.1) x a.2 in
+    let a = bind_ok (position_at room bytes) _ x e in
+    let b = bind_ok (position_at room a.0.1) _ x a.2 in
     let ta = position_takes room bytes a.0 fits a.1 in
     let tb = position_takes room a.0.1 b.0 ta.0.rest_fits b.1 in
     let all = Takes-then bytes (position a.0.0) a.0.1 (position b.0.0) b.0.1 ta.0 tb.0 in
@@ -370,9 +370,9 @@ size_takes room rows first bytes x fits e = kept_takes room (λ n. is_on rows fi
 scroll_takes : (room : ℕ) (rows : Option ℕ) (make : ℕ → ℕ → ℕ → ChangeValue) (bytes : List ℕ) (x : ChangeValue × List ℕ) → IsBytes bytes → scroll_at room rows make bytes ≡ Ok x → ScrollFound rows make bytes x
 unfolding scroll_at scroll
 scroll_takes room rows make bytes x fits e =
-    let a = bind_ok (unsigned_at room bytes) (λ a. region_size_at room rows a.0 a.1 >>= λ b. unsigned_at room b.1 >>= λ c. ok (make a.0 b.0 c.0) c.1) x e in
-    let b = bind_ok (region_size_at room rows a.0.0 a.0.1) (λ b. unsigned_at room b.1 >>= λ c. ok (make a.0.0 b.0 c.0) c.1) x a.2 in
-    let c = bind_ok (unsigned_at room b.0.1) (λ c. ok (make a.0.0 b.0.0 c.0) c.1) x b.2 in
+    let a = bind_ok (unsigned_at room bytes) _ x e in
+    let b = bind_ok (region_size_at room rows a.0.0 a.0.1) _ x a.2 in
+    let c = bind_ok (unsigned_at room b.0.1) _ x b.2 in
     let ta = unsigned_takes room bytes a.0 fits a.1 in
     let tb = size_takes room rows a.0.0 a.0.1 b.0 ta.0.rest_fits b.1 in
     let tc = unsigned_takes room b.0.1 c.0 tb.0.rest_fits c.1 in
@@ -398,11 +398,11 @@ down_takes measure room rows count bytes x fits e =
 rest_takes : (room : ℕ) (r : Run) (bytes rest : List ℕ) → IsBytes bytes → is_rest_at room r bytes ≡ Ok (true, rest) → Takes bytes (unsigned r.characters ++ unsigned r.columns) rest
 unfolding is_rest_at
 rest_takes room r bytes rest fits e =
-    let size = bind_ok (unsigned_at room bytes) (λ size. cond (eqb size.0 r.characters) (unsigned_at room size.1 >>= λ columns. ok (eqb columns.0 r.columns) columns.1) (ok false size.1)) (true, rest) e in
+    let size = bind_ok (unsigned_at room bytes) _ (true, rest) e in
     let ts = unsigned_takes room bytes size.0 fits size.1 in
     elim (chosen (eqb size.0.0 r.characters) (unsigned_at room size.0.1 >>= λ columns. ok (eqb columns.0 r.columns) columns.1) (ok false size.0.1) (Ok (true, rest)) size.2) [
       | inl p ↦
-          let columns = bind_ok (unsigned_at room size.0.1) (λ columns. ok (eqb columns.0 r.columns) columns.1) (true, rest) p.1 in
+          let columns = bind_ok (unsigned_at room size.0.1) _ (true, rest) p.1 in
           let tc = unsigned_takes room size.0.1 columns.0 ts.0.rest_fits columns.1 in
           let both_are : (eqb columns.0.0 r.columns, columns.0.1) ≡ (true, rest) = ok_is {A = Bool × List ℕ} {E = Stop} (eqb columns.0.0 r.columns, columns.0.1) (true, rest) columns.2 in
           let is : eqb columns.0.0 r.columns ≡ true = ap (λ (y : Bool × List ℕ). y.0) both_are in
@@ -417,7 +417,7 @@ rest_takes room r bytes rest fits e =
 run_takes : (room : ℕ) (r : Run) (bytes rest : List ℕ) → IsBytes bytes → is_run_at room r bytes ≡ Ok (true, rest) → Takes bytes (run r) rest
 unfolding is_run_at run
 run_takes room r bytes rest fits e =
-    let count = bind_ok (unsigned_at room bytes) (λ count. cond (eqb count.0 r.count) (is_rest_at room r count.1) (ok false count.1)) (true, rest) e in
+    let count = bind_ok (unsigned_at room bytes) _ (true, rest) e in
     let tc = unsigned_takes room bytes count.0 fits count.1 in
     elim (chosen (eqb count.0.0 r.count) (is_rest_at room r count.0.1) (ok false count.0.1) (Ok (true, rest)) count.2) [
       | inl p ↦
@@ -434,7 +434,7 @@ runs_take room [] bytes rest fits e =
     let same : (true, bytes) ≡ (true, rest) = ok_is {A = Bool × List ℕ} {E = Stop} (true, bytes) (true, rest) e in
     record { parts = ap (λ (y : Bool × List ℕ). y.1) same; rest_fits = subst (λ (y : List ℕ). IsBytes y) (ap (λ (y : Bool × List ℕ). y.1) same) fits }
 runs_take room (r ∷ rs) bytes rest fits e =
-    let one = bind_ok (is_run_at room r bytes) (λ is. cond is.0 (are_at room rs is.1) (ok false is.1)) (true, rest) e in
+    let one = bind_ok (is_run_at room r bytes) _ (true, rest) e in
     elim (chosen one.0.0 (are_at room rs one.0.1) (ok false one.0.1) (Ok (true, rest)) one.2) [
       | inl p ↦
           let named : is_run_at room r bytes ≡ Ok (true, one.0.1) = one.1 ∙ ap (λ (b : Bool). ok {E = Stop} b one.0.1) p.0 in
@@ -447,11 +447,11 @@ runs_take room (r ∷ rs) bytes rest fits e =
 same_takes : (room : ℕ) (rs : List Run) (bytes rest : List ℕ) → IsBytes bytes → same_at room rs bytes ≡ Ok (true, rest) → Takes bytes (pieces rs) rest × (3 * length rs < 2 ^ 64)
 unfolding same_at pieces
 same_takes room rs bytes rest fits e =
-    let n = bind_ok (array_at room bytes) (λ n. cond (eqb n.0 (3 * length rs)) (list_at room bytes >>= λ m. are_at room rs m.1) (ok false n.1)) (true, rest) e in
+    let n = bind_ok (array_at room bytes) _ (true, rest) e in
     let tn = array_takes room bytes n.0 fits n.1 in
     elim (chosen (eqb n.0.0 (3 * length rs)) (list_at room bytes >>= λ m. are_at room rs m.1) (ok false n.0.1) (Ok (true, rest)) n.2) [
       | inl p ↦
-          let m = bind_ok (list_at room bytes) (λ m. are_at room rs m.1) (true, rest) p.1 in
+          let m = bind_ok (list_at room bytes) _ (true, rest) p.1 in
           let is : n.0.0 ≡ 3 * length rs = eqb-true n.0.0 (3 * length rs) p.0 in
           let again : m.0 ≡ n.0 = list_is_array room bytes m.0 n.0 m.1 n.1 in
           let after : are_at room rs n.0.1 ≡ Ok (true, rest) = sym (ap (λ (y : ℕ × List ℕ). are_at room rs y.1) again) ∙ m.2 in
@@ -474,7 +474,7 @@ record PiecesFound (count : ℕ) (rs : List Run) (bytes rest : List ℕ) : Type 
 others_never : {P : Type 0} (room place : ℕ) (t bytes rest : List ℕ) → others_at room place t bytes ≡ Ok rest → P
 unfolding others_at
 others_never room place t bytes rest e =
-    let bad = bind_ok (cut_at room t bytes) (λ rest. Err (record { fault = faults.Measure; left = place })) rest e in
+    let bad = bind_ok (cut_at room t bytes) _ rest e in
     never (record { fault = faults.Measure; left = place }) rest bad.2
 
 listed_takes : (room place : ℕ) (t : List ℕ) (rs : List Run) (bytes rest : List ℕ) → IsBytes bytes → pieces_at room place t rs bytes ≡ Ok rest → Takes bytes (pieces rs) rest × (needs_pieces rs ≡ true) × (3 * length rs < 2 ^ 64)
@@ -482,7 +482,7 @@ unfolding pieces_at
 listed_takes room place t rs bytes rest fits e =
     elim (chosen (needs_pieces rs) (same_at room rs bytes >>= λ same. cond same.0 (Ok same.1) (others_at room place t bytes)) (others_at room place t bytes) (Ok rest) e) [
       | inl p ↦
-          let same = bind_ok (same_at room rs bytes) (λ same. cond same.0 (Ok same.1) (others_at room place t bytes)) rest p.1 in
+          let same = bind_ok (same_at room rs bytes) _ rest p.1 in
           elim (chosen same.0.0 (Ok same.0.1) (others_at room place t bytes) (Ok rest) same.2) [
             | inl q ↦
                 let ends : same.0.1 ≡ rest = ok_is {A = List ℕ} {E = Stop} same.0.1 rest q.1 in
@@ -511,8 +511,8 @@ printed_takes : (measure : List ℕ → ℕ) (room : ℕ) (rows : Option ℕ) (c
 unfolding printed_at change_values
 printed_takes measure room rows count bytes x fits e =
     let place : ℕ = allowed room bytes in
-    let t = bind_ok (text_at room bytes) (λ t. pieces_by room (allowed room bytes) count t.0 (runs measure t.0) t.1 >>= λ rest. ok (changed.Text t.0) rest) x e in
-    let rest = bind_ok (pieces_by room (allowed room bytes) count t.0.0 (runs measure t.0.0) t.0.1) (λ rest. ok (changed.Text t.0.0) rest) x t.2 in
+    let t = bind_ok (text_at room bytes) _ x e in
+    let rest = bind_ok (pieces_by room (allowed room bytes) count t.0.0 (runs measure t.0.0) t.0.1) _ x t.2 in
     let tt_ = text_takes room bytes t.0 fits t.1 in
     let tp = pieces_take room (allowed room bytes) count t.0.0 (runs measure t.0.0) t.0.1 rest.0 tt_.0.rest_fits rest.1 in
     let all = Takes-then bytes (text t.0.0) t.0.1 (cond (needs_pieces (runs measure t.0.0)) (pieces (runs measure t.0.0)) []) rest.0 tt_.0 tp.taken in
@@ -593,33 +593,33 @@ values_found measure rows count kind n bytes r f x is read law =
 change_values_takes : (measure : List ℕ → ℕ) (room : ℕ) (rows : Option ℕ) (count kind : ℕ) (bytes : List ℕ) (x : ChangeValue × List ℕ) → IsBytes bytes → change_by measure room rows count kind bytes ≡ Ok x → ValuesFound measure rows count kind bytes x
 unfolding change_values
 change_values_takes measure room rows count kind bytes x fits e =
-    picks kind 0 (attribute_change_at room bytes >>= λ v. ok (changed.Attribute v.0) v.1) (or_1 measure room rows count kind bytes) x e
+    picks kind 0 _ _ x e
     (λ is read. values_found measure rows count kind 0 bytes (attribute_change_at room bytes) changed.Attribute x is read (λ v found. let t = attribute_change_takes room bytes v fits found in (record { taken = t.0; kind_is = refl; form = t.1; on = tt; items = refl })))
-    (λ more. picks kind 1 (attributes_at room bytes >>= λ v. ok (changed.AllAttributes v.0) v.1) (or_2 measure room rows count kind bytes) x more
+    (λ more. picks kind 1 _ _ x more
     (λ is read. values_found measure rows count kind 1 bytes (attributes_at room bytes) changed.AllAttributes x is read (λ v found. let t = attributes_takes room bytes v fits found in (record { taken = t.0; kind_is = refl; form = t.1; on = tt; items = refl })))
-    (λ more. picks kind 2 (printed_at measure room count bytes) (or_3 measure room rows count kind bytes) x more
+    (λ more. picks kind 2 _ _ x more
     (λ is read. subst (λ (k : ℕ). ValuesFound measure rows count k bytes x) (sym is) (printed_takes measure room rows count bytes x fits read))
-    (λ more. picks kind 3 (color_item_at room bytes >>= λ v. ok (changed.ClearScreen v.0) v.1) (or_4 measure room rows count kind bytes) x more
+    (λ more. picks kind 3 _ _ x more
     (λ is read. values_found measure rows count kind 3 bytes (color_item_at room bytes) changed.ClearScreen x is read (λ v found. let t = color_takes room bytes v fits found in (record { taken = t.0; kind_is = refl; form = t.1; on = tt; items = refl })))
-    (λ more. picks kind 4 (color_item_at room bytes >>= λ v. ok (changed.ClearToEndOfLine v.0) v.1) (or_5 measure room rows count kind bytes) x more
+    (λ more. picks kind 4 _ _ x more
     (λ is read. values_found measure rows count kind 4 bytes (color_item_at room bytes) changed.ClearToEndOfLine x is read (λ v found. let t = color_takes room bytes v fits found in (record { taken = t.0; kind_is = refl; form = t.1; on = tt; items = refl })))
-    (λ more. picks kind 5 (color_item_at room bytes >>= λ v. ok (changed.ClearToEndOfScreen v.0) v.1) (or_6 measure room rows count kind bytes) x more
+    (λ more. picks kind 5 _ _ x more
     (λ is read. values_found measure rows count kind 5 bytes (color_item_at room bytes) changed.ClearToEndOfScreen x is read (λ v found. let t = color_takes room bytes v fits found in (record { taken = t.0; kind_is = refl; form = t.1; on = tt; items = refl })))
-    (λ more. picks kind 6 (place_at room bytes) (or_7 measure room rows count kind bytes) x more
+    (λ more. picks kind 6 _ _ x more
     (λ is read. subst (λ (k : ℕ). ValuesFound measure rows count k bytes x) (sym is) (place_takes measure room rows count bytes x fits read))
-    (λ more. picks kind 7 (color_item_at room bytes >>= λ v. ok (changed.CursorColor v.0) v.1) (or_8 measure room rows count kind bytes) x more
+    (λ more. picks kind 7 _ _ x more
     (λ is read. values_found measure rows count kind 7 bytes (color_item_at room bytes) changed.CursorColor x is read (λ v found. let t = color_takes room bytes v fits found in (record { taken = t.0; kind_is = refl; form = t.1; on = tt; items = refl })))
-    (λ more. picks kind 8 (below_at room 7 bytes >>= λ v. ok (changed.CursorShape (shape_at v.0)) v.1) (or_9 measure room rows count kind bytes) x more
+    (λ more. picks kind 8 _ _ x more
     (λ is read. values_found measure rows count kind 8 bytes (below_at room 7 bytes) (λ v. changed.CursorShape (shape_at v)) x is read (λ v found. (record { taken = (number_found room 7 (λ n. shape_number (shape_at n)) bytes v fits shape-found found); kind_is = refl; form = tt; on = tt; items = refl })))
-    (λ more. picks kind 9 (boolean_at room bytes >>= λ v. ok (changed.CursorVisibility (visibility_of v.0)) v.1) (or_10 measure room rows count kind bytes) x more
+    (λ more. picks kind 9 _ _ x more
     (λ is read. values_found measure rows count kind 9 bytes (boolean_at room bytes) (λ v. changed.CursorVisibility (visibility_of v)) x is read (λ v found. (record { taken = (subst (λ (b : Bool). Takes bytes (boolean b) v.1) (sym (visibility-found v.0)) (boolean_takes room bytes v fits found)); kind_is = refl; form = tt; on = tt; items = refl })))
-    (λ more. picks kind 10 (scroll_at room rows changed.ScrollRegionUp bytes) (or_11 measure room rows count kind bytes) x more
+    (λ more. picks kind 10 _ _ x more
     (λ is read. subst (λ (k : ℕ). ValuesFound measure rows count k bytes x) (sym is) (up_takes measure room rows count bytes x fits read))
-    (λ more. picks kind 11 (scroll_at room rows changed.ScrollRegionDown bytes) (or_12 measure room rows count kind bytes) x more
+    (λ more. picks kind 11 _ _ x more
     (λ is read. subst (λ (k : ℕ). ValuesFound measure rows count k bytes x) (sym is) (down_takes measure room rows count bytes x fits read))
-    (λ more. picks kind 12 (text_at room bytes >>= λ v. ok (changed.Title v.0) v.1) (or_13 measure room rows count kind bytes) x more
+    (λ more. picks kind 12 _ _ x more
     (λ is read. values_found measure rows count kind 12 bytes (text_at room bytes) changed.Title x is read (λ v found. let t = text_takes room bytes v fits found in (record { taken = t.0; kind_is = refl; form = t.1; on = tt; items = refl })))
-    (λ more. picks kind 13 (below_at room 4 bytes >>= λ v. ok (changed.LineAttribute (line_at v.0)) v.1) (refused faults.Type room bytes) x more
+    (λ more. picks kind 13 _ _ x more
     (λ is read. values_found measure rows count kind 13 bytes (below_at room 4 bytes) (λ v. changed.LineAttribute (line_at v)) x is read (λ v found. (record { taken = (number_found room 4 (λ n. line_number (line_at n)) bytes v fits line-found found); kind_is = refl; form = tt; on = tt; items = refl })))
     (λ none. never (stopped faults.Type room bytes) x none))))))))))))))
 
@@ -653,9 +653,9 @@ items-counted kind count e =
 pub change_takes : (measure : List ℕ → ℕ) (room : ℕ) (rows : Option ℕ) (bytes : List ℕ) (x : ChangeValue × List ℕ) → IsBytes bytes → change_at measure room rows bytes ≡ Ok x → Takes bytes (change measure x.0) x.1 × IsChange measure x.0 × FitsRows rows x.0
 unfolding change_at count_at change_kind_at
 change_takes measure room rows bytes x fits e =
-    let count = bind_ok (count_at room bytes) (λ count. change_kind_at room count.0 count.1 >>= λ kind. change_by measure room rows count.0 kind.0 kind.1) x e in
-    let kind = bind_ok (change_kind_at room count.0.0 count.0.1) (λ kind. change_by measure room rows count.0.0 kind.0 kind.1) x count.2 in
-    let counted = bind_ok (array_at room bytes) (λ n. cond (ltb 1 n.0 && ltb n.0 5) (Ok n) (refused faults.Type room bytes)) count.0 count.1 in
+    let count = bind_ok (count_at room bytes) _ x e in
+    let kind = bind_ok (change_kind_at room count.0.0 count.0.1) _ x count.2 in
+    let counted = bind_ok (array_at room bytes) _ count.0 count.1 in
     let gc = guard_ended (ltb 1 counted.0.0 && ltb counted.0.0 5) (stopped faults.Type room bytes) counted.0 count.0 counted.2 in
     let tn = array_takes room bytes counted.0 fits counted.1 in
     let tc = subst (λ (y : ℕ × List ℕ). Takes bytes (array y.0) y.1) gc.1 tn.0 in

@@ -93,7 +93,7 @@ style-found n lt e =
 pub style_takes : (room : ℕ) (bytes : List ℕ) (x : ℕ × List ℕ) → IsBytes bytes → style_item_at room bytes ≡ Ok x → Takes bytes (unsigned x.0) x.1 × (style_number (styled x.0) ≡ x.0)
 unfolding style_item_at
 style_takes room bytes x fits e =
-    let a = bind_ok (below_at room style_limit bytes) (λ n. cond (are_small (split fields n.0)) (Ok n) (refused Range room bytes)) x e in
+    let a = bind_ok (below_at room style_limit bytes) _ x e in
     let g = guard_ended (are_small (split fields a.0.0)) (stopped Range room bytes) a.0 x a.2 in
     let t = number_takes room style_limit bytes a.0 fits a.1 in
     subst (λ (y : ℕ × List ℕ). Takes bytes (unsigned y.0) y.1 × (style_number (styled y.0) ≡ y.0)) g.1 (t.0, style-found a.0.0 t.1 g.0)

@@ -29,16 +29,18 @@ impl Columns {
 }
 
 /// The columns of a simple character. Those that are most frequent are found in few steps.
-#[inline]
+#[inline(always)]
 fn columns_of_simple(character: char) -> Option<Columns> {
     match character {
         ' '..='~' => Some(Columns::One),
         '\u{3041}'..='\u{3096}' | '\u{4e00}'..='\u{9fff}' => Some(Columns::Two),
+        '\u{c0}'..='\u{2ff}' | '\u{391}'..='\u{482}' => Some(Columns::One),
         '\u{2200}'..='\u{22ff}' | '\u{2500}'..='\u{25fc}' => Some(Columns::One),
         _ => columns_of_any(character),
     }
 }
 
+#[inline(never)]
 fn columns_of_any(character: char) -> Option<Columns> {
     Some(match character {
         ' '..='~'
@@ -109,18 +111,27 @@ impl Run {
         }
         let (mut length, mut columns, mut is_ascii) = (0, 0, true);
         let mut is_measured = true;
-        for (at, character) in text.char_indices() {
+        let is_narrow = !matches!(widths, Widths::Table(_));
+        while let Some(character) = text[length..].chars().next() {
+            if is_narrow && character.is_ascii() {
+                let some = count_ascii(&text.as_bytes()[length..], room - columns);
+                if some == 0 {
+                    break;
+                }
+                (length, columns) = (length + some, columns + some);
+                continue;
+            }
             let Some(kind) = columns_of_simple(character) else {
                 break;
             };
-            let behind = at + character.len_utf8();
+            let behind = length + character.len_utf8();
             let more = match kind.known(widths) {
                 Some(more) => more,
                 None if room == usize::MAX => {
                     is_measured = false;
                     0
                 }
-                None => text_width(&text[at..behind], widths),
+                None => text_width(&text[length..behind], widths),
             };
             if columns + more > room {
                 break;
@@ -137,6 +148,16 @@ impl Run {
             is_ascii,
         }
     }
+}
+
+/// How many leading bytes, at most `limit`, are ASCII.
+#[inline]
+fn count_ascii(bytes: &[u8], limit: usize) -> usize {
+    let front = &bytes[..limit.min(bytes.len())];
+    front
+        .iter()
+        .position(|byte| !byte.is_ascii())
+        .unwrap_or(front.len())
 }
 
 /// Whether a text that isn't empty is one grapheme.

@@ -119,6 +119,7 @@ fn begins_simple(text: &str) -> bool
 }
 
 // Decides it by the character. It is kept apart, so that the path of ASCII is short.
+#[inline(never)]
 fn begins_simple_char(text: &str) -> bool
     ensures { result ≡ letter.begins_simple (chars text.now) }
 {

@@ -10,7 +10,6 @@ ghost use Rattle.termwiz_storage.specs.{vec_len, visible, with_half, with_halves
 use super::lists::put_copies;
 use crate::line::vecstorage::{VecStorage, end_of, half_of, pad_cells};
 use std::alloc::{AllocError, Global};
-use std::mem;
 use termwiz_cell::cell::{Cell, CellAttributes};
 
 impl VecStorage {
@@ -307,12 +306,11 @@ fn insert_before_margin(cells: &mut Vec<Cell>, x: usize, cell: Cell, margin: usi
 
 // Moves each cell by one, stores the new one at the front, and drops the last one.
 fn push_along(cells: &mut [Cell], cell: Cell)
+    requires { 0 < length cells.old }
     ensures { cells.new ≡ take (length cells.old) (cell ∷ cells.old) }
 {
-    let mut carried = cell;
-    for i in 0..cells.len() {
-        carried = mem::replace(&mut cells[i], carried);
-    }
+    cells.rotate_right(1);
+    cells[0] = cell;
 }
 
 /// Pushes a cell, and the half of a wide one after it. An error may leave a wide cell without its

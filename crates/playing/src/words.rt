@@ -40,37 +40,37 @@ pub(crate) fn name_of<T: PartialEq>(names: &[(&'static str, T)], value: &T) -> &
     ""
 }
 
-/// A colour: `default`, an index of the palette, `maroon`, `true`, which is black or else the
-/// palette's 7, or `#RRGGBB`, with `+` and an index after it where it falls back to the palette.
-pub(crate) fn color_of(word: &str) -> Option<ColorAttribute> {
-    match word {
-        "default" => Some(ColorAttribute::Default),
-        "maroon" => Some(AnsiColor::Maroon.into()),
-        "true" => Some(ColorAttribute::TrueColorWithPaletteFallback(RgbColor::default(), 7)),
-        _ if word.starts_with('#') => true_color(word),
-        _ => Some(ColorAttribute::PaletteIndex(word.parse().ok()?)),
-    }
-}
-
-fn true_color(word: &str) -> Option<ColorAttribute> {
-    let Some((word, index)) = word.split_once('+') else {
-        let color = RgbColor::from_rgb_str(word)?;
-        return Some(ColorAttribute::TrueColorWithDefaultFallback(color));
-    };
-    let (color, index) = (RgbColor::from_rgb_str(word)?, index.parse().ok()?);
-    Some(ColorAttribute::TrueColorWithPaletteFallback(color, index))
-}
-
-fn byte_of(digits: &[u8]) -> Option<u8> {
-    let digits = str::from_utf8(digits).ok()?;
-    u8::from_str_radix(digits, 16).ok()
-}
-
 impl Turn<'_> {
+    /// The colour of a word: `default`, an index of the palette, `maroon`, `true`, which is black
+    /// or else the palette's 7, or `#RRGGBB`, with `+` and an index after it where it falls back to
+    /// the palette.
+    pub(crate) fn color_of(&mut self, word: &str) -> ColorAttribute {
+        match word {
+            "default" => ColorAttribute::Default,
+            "maroon" => AnsiColor::Maroon.into(),
+            "true" => ColorAttribute::TrueColorWithPaletteFallback(RgbColor::default(), 7),
+            _ if word.starts_with('#') => {
+                let (rgb, index) = word.split_once('+').unwrap_or((word, "0"));
+                let color = self.found(RgbColor::from_rgb_str(rgb));
+                let color = color.unwrap_or(RgbColor::default());
+                let index = self.found(index.parse().ok()).unwrap_or(0);
+                if rgb == word {
+                    ColorAttribute::TrueColorWithDefaultFallback(color)
+                } else {
+                    ColorAttribute::TrueColorWithPaletteFallback(color, index)
+                }
+            }
+            _ => {
+                let index = self.found(word.parse().ok()).unwrap_or(0);
+                ColorAttribute::PaletteIndex(index)
+            }
+        }
+    }
+
     /// The colour of the next word.
     pub fn color(&mut self) -> ColorAttribute {
-        let color = color_of(self.word());
-        self.found(color).unwrap_or(ColorAttribute::Default)
+        let word = self.word();
+        self.color_of(word)
     }
 
     /// Answers the word of a colour.
@@ -129,8 +129,9 @@ impl Turn<'_> {
             return bytes;
         }
         for digits in word.as_bytes().chunks(2) {
-            let byte = self.found(byte_of(digits)).unwrap_or(0);
-            let pushed = bytes.push(byte);
+            let digits = str::from_utf8(digits).unwrap_or("");
+            let byte = u8::from_str_radix(digits, 16).ok();
+            let pushed = bytes.push(self.found(byte).unwrap_or(0));
             self.note(pushed);
         }
         bytes

@@ -7,8 +7,6 @@ use std::fmt::Display;
 // How many bytes of an answer are never refused.
 const SHORT: usize = 64;
 
-const TRUTHS: [(&str, bool); 4] = [("true", true), ("false", false), ("1", true), ("0", false)];
-
 /// The words of a line that are still to be read, and what is answered to it so far.
 ///
 /// A word that is missing or says nothing, and memory that is refused, are faults. The first is
@@ -19,7 +17,8 @@ const TRUTHS: [(&str, bool); 4] = [("true", true), ("false", false), ("1", true)
 #[derive(Drop)]
 pub struct Turn<'a> {
     pub alloc: Global,
-    rest: &'a str,
+    /// The words that are still to be read.
+    pub(crate) rest: &'a str,
     answer: String,
     fault: Option<PlayError>,
 }
@@ -105,11 +104,6 @@ impl<'a> Turn<'a> {
         self.rest.is_empty()
     }
 
-    /// Reads these words from now on.
-    pub(crate) fn read(&mut self, words: &'a str) {
-        self.rest = words;
-    }
-
     /// Whether the words begin with these characters, which are read then.
     pub fn takes(&mut self, front: &str) -> bool {
         match self.rest.strip_prefix(front) {
@@ -169,11 +163,6 @@ impl<'a> Turn<'a> {
     pub fn numbered<'b, T>(&mut self, list: &'b mut Vec<T>) -> Option<&'b mut T> {
         let number = self.number();
         self.found(list.get_mut(number))
-    }
-
-    /// `true` or `false`, or `1` or `0`.
-    pub(crate) fn truth(&mut self) -> bool {
-        self.named(&TRUTHS, false)
     }
 
     /// The value of the next word in a table of names, and some value for any other word.

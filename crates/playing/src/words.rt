@@ -3,7 +3,8 @@ use crate::turn::Turn;
 use termwiz_cell::change::{CursorShape, LineAttribute, Position};
 use termwiz_cell::color::{AnsiColor, ColorAttribute, RgbColor};
 
-const SHAPES: [(&str, CursorShape); 7] = [
+/// The names of shapes.
+pub(crate) const SHAPES: [(&str, CursorShape); 7] = [
     ("default", CursorShape::Default),
     ("blinking-block", CursorShape::BlinkingBlock),
     ("blinking-underline", CursorShape::BlinkingUnderline),
@@ -13,7 +14,8 @@ const SHAPES: [(&str, CursorShape); 7] = [
     ("steady-bar", CursorShape::SteadyBar),
 ];
 
-const LINE_ATTRIBUTES: [(&str, LineAttribute); 4] = [
+/// The names of sizes of a line.
+pub(crate) const LINE_ATTRIBUTES: [(&str, LineAttribute); 4] = [
     ("top", LineAttribute::DoubleHeightTopHalfLine),
     ("bottom", LineAttribute::DoubleHeightBottomHalfLine),
     ("double", LineAttribute::DoubleWidthLine),
@@ -110,16 +112,6 @@ impl Turn<'_> {
         }
         let distance = self.found(word.strip_prefix('~')).unwrap_or("");
         Position::Relative(self.distance_of(distance))
-    }
-
-    /// The shape that the next word names.
-    pub(crate) fn shape(&mut self) -> CursorShape {
-        self.named(&SHAPES, CursorShape::Default)
-    }
-
-    /// The size of a line that the next word names.
-    pub(crate) fn line_attribute(&mut self) -> LineAttribute {
-        self.named(&LINE_ATTRIBUTES, LineAttribute::SingleWidthLine)
     }
 
     /// The bytes that a word writes, where `-` writes none.

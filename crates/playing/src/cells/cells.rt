@@ -19,9 +19,9 @@ pub fn answer(turn: &mut Turn<'_>) {
         }
         "same" => {
             let (one, other) = turn.sides();
-            turn.read(one);
+            turn.rest = one;
             let one = cell(turn);
-            turn.read(other);
+            turn.rest = other;
             let same = one == cell(turn);
             write!(turn, "{same}");
         }
@@ -36,7 +36,7 @@ pub fn answer(turn: &mut Turn<'_>) {
 fn debug(turn: &mut Turn<'_>, copies: bool) {
     let (alloc, (word, words)) = (turn.alloc, turn.sides());
     let attrs = turn.pen_of(words, ' ');
-    turn.read(word);
+    turn.rest = word;
     let text = turn.quoted();
     if !copies {
         let made = Cell::new_grapheme(alloc, &UnicodeWidths, text, attrs, None);

@@ -1,7 +1,8 @@
 //! Questions about changes.
 use crate::error::PlayError;
 use crate::turn::Turn;
-use termwiz_cell::change::Change;
+use crate::words::{LINE_ATTRIBUTES, SHAPES};
+use termwiz_cell::change::{Change, CursorShape, LineAttribute};
 
 pub fn answer(turn: &mut Turn<'_>) {
     match turn.word() {
@@ -15,15 +16,15 @@ pub fn answer(turn: &mut Turn<'_>) {
         }
         "same" => {
             let (one, other) = turn.sides();
-            turn.read(one);
+            turn.rest = one;
             let one = change(turn);
-            turn.read(other);
+            turn.rest = other;
             let same = one == change(turn);
             write!(turn, "{same}");
         }
         "blinks" => {
-            let blinks = turn.shape().is_blinking();
-            write!(turn, "{blinks}");
+            let shape = turn.named(&SHAPES, CursorShape::Default);
+            write!(turn, "{}", shape.is_blinking());
         }
         _ => turn.fail(PlayError::Bad),
     }
@@ -49,10 +50,13 @@ fn change(turn: &mut Turn<'_>) -> Change {
             let word = turn.word();
             Some(Change::from(turn.attribute_of(word)))
         }
-        "line" => Some(Change::LineAttribute(turn.line_attribute())),
-        "size" => Some(Change::from(turn.line_attribute())),
+        "line" => turn.change("row"),
+        "size" => {
+            let single = LineAttribute::SingleWidthLine;
+            Some(Change::from(turn.named(&LINE_ATTRIBUTES, single)))
+        }
         "up" => {
-            turn.read("=0 ~-1");
+            turn.rest = "=0 ~-1";
             turn.change("move")
         }
         name => turn.change(name.strip_prefix("scroll-").unwrap_or(name)),

@@ -20,9 +20,9 @@ pub fn answer(turn: &mut Turn<'_>) {
         }
         "same" => {
             let (one, other) = turn.sides();
-            turn.read(one);
+            turn.rest = one;
             let one = link(turn);
-            turn.read(other);
+            turn.rest = other;
             let other = link(turn);
             let (same, params) = (one == other, one.params() == other.params());
             write!(turn, "{same}, params {params}");

@@ -9,6 +9,9 @@ use termwiz_line::line::bidi::{Direction, ParagraphDirectionHint};
 use termwiz_line::line::line::Line;
 use termwiz_text::split_letter_run;
 
+// Recorded calls have digits.
+const TRUTHS: [(&str, bool); 4] = [("true", true), ("false", false), ("1", true), ("0", false)];
+
 const DIRECTIONS: [(&str, Direction); 2] = [
     ("left", Direction::LeftToRight),
     ("right", Direction::RightToLeft),
@@ -156,21 +159,21 @@ fn edit_at(line: &mut Line, name: &str, turn: &mut Turn<'_>) {
 }
 
 fn set_flags(line: &mut Line, name: &str, turn: &mut Turn<'_>) {
+    let direction = match name {
+        "direction" => turn.named(&DIRECTIONS, Direction::LeftToRight),
+        _ => Direction::LeftToRight,
+    };
+    let flag = turn.named(&TRUTHS, false);
+    let hint = match name {
+        "bidi" => turn.named(&HINTS, ParagraphDirectionHint::LeftToRight),
+        _ => ParagraphDirectionHint::LeftToRight,
+    };
+    let seqno = turn.number();
     match name {
-        "mark" => {
-            let (wrapped, seqno) = (turn.truth(), turn.number());
-            turn.note(line.set_last_cell_was_wrapped(wrapped, seqno));
-        }
-        "enable" => line.set_bidi_enabled(turn.truth(), turn.number()),
-        "bidi" => {
-            let enabled = turn.truth();
-            let hint = turn.named(&HINTS, ParagraphDirectionHint::LeftToRight);
-            line.set_bidi_info(enabled, hint, turn.number());
-        }
-        _ => {
-            let direction = turn.named(&DIRECTIONS, Direction::LeftToRight);
-            line.set_direction(direction, turn.truth(), turn.number());
-        }
+        "mark" => turn.note(line.set_last_cell_was_wrapped(flag, seqno)),
+        "enable" => line.set_bidi_enabled(flag, seqno),
+        "bidi" => line.set_bidi_info(flag, hint, seqno),
+        _ => line.set_direction(direction, flag, seqno),
     }
 }
 

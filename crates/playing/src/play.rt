@@ -22,7 +22,11 @@ pub trait Play {
 pub fn play_input<P: Play>(rt: &HostRuntime, play: &mut P) -> Result<(), PlayError> {
     let script = io::read_to_string(rt.alloc(), rt.stdin()).map_err(|_| PlayError::Io)?;
     let mut printed = String::new(rt.alloc());
-    let mut above = Above::new(rt.alloc());
+    let mut above = Above {
+        alloc: rt.alloc(),
+        question: None,
+        answer: String::new(rt.alloc()),
+    };
     let played = play_lines(script.as_str(), &mut above, play, &mut printed);
     rt.stdout()
         .write_all(printed.as_bytes())
@@ -37,34 +41,26 @@ fn play_lines<'a, P: Play>(
     printed: &mut String,
 ) -> Result<(), PlayError> {
     for line in script.lines() {
-        if !line.starts_with("  ") {
-            push_line(printed, "", line)?;
-            play_line(line, above, play, printed)?;
+        if line.starts_with("  ") {
+            continue;
+        }
+        writeln!(printed, "{line}")?;
+        if line.is_empty() || line.starts_with('#') {
+            continue;
+        }
+        match above.answered(line, play) {
+            Ok(answer) => {
+                push_lines(printed, "  ", answer.as_str())?;
+                above.question = line.strip_prefix("? ");
+                above.answer = answer;
+            }
+            Err(error) => {
+                writeln!(printed, "  {error:?}")?;
+                return Err(error);
+            }
         }
     }
     Ok(())
-}
-
-fn play_line<'a, P: Play>(
-    line: &'a str,
-    above: &mut Above<'a>,
-    play: &mut P,
-    printed: &mut String,
-) -> Result<(), PlayError> {
-    if line.is_empty() || line.starts_with('#') {
-        return Ok(());
-    }
-    match above.answered(line, play) {
-        Ok(answer) => {
-            push_lines(printed, "  ", answer.as_str())?;
-            above.keep(line, answer);
-            Ok(())
-        }
-        Err(error) => {
-            writeln!(printed, "  {error:?}")?;
-            Err(error)
-        }
-    }
 }
 
 /// The line above, if it is a question that is asked again, and its answer.
@@ -75,20 +71,7 @@ struct Above<'a> {
     answer: String,
 }
 
-impl<'a> Above<'a> {
-    fn new(alloc: Global) -> Above<'a> {
-        Above {
-            alloc,
-            question: None,
-            answer: String::new(alloc),
-        }
-    }
-
-    fn keep(&mut self, line: &'a str, answer: String) {
-        self.question = line.strip_prefix("? ");
-        self.answer = answer;
-    }
-
+impl Above<'_> {
     fn answered<P: Play>(&self, line: &str, play: &mut P) -> Result<String, PlayError> {
         let line = line.strip_prefix("? ").unwrap_or(line);
         match answer(self.alloc, line, play) {
@@ -129,14 +112,7 @@ pub(crate) fn answer<P: Play>(
 /// Adds each line after a mark.
 pub(crate) fn push_lines(printed: &mut String, mark: &str, lines: &str) -> Result<(), PlayError> {
     for line in lines.lines() {
-        push_line(printed, mark, line)?;
+        writeln!(printed, "{mark}{line}")?;
     }
-    Ok(())
-}
-
-fn push_line(printed: &mut String, mark: &str, line: &str) -> Result<(), PlayError> {
-    printed.push_str(mark)?;
-    printed.push_str(line)?;
-    printed.push('\n')?;
     Ok(())
 }

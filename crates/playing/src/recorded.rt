@@ -15,13 +15,26 @@ pub fn play_recorded<P: Play>(
     play: &mut P,
 ) -> Result<(), PlayError> {
     let recording = fs::read_to_string(rt, name).map_err(|_| PlayError::Io)?;
-    let mut replay = Replay::new(rt.alloc());
+    let mut replay = Replay {
+        alloc: rt.alloc(),
+        case: String::new(rt.alloc()),
+        first: 1,
+        lines: 0,
+        cases: 0,
+        agreeing: 0,
+        answers: 0,
+        differences: String::new(rt.alloc()),
+    };
     replay.play(recording.as_str(), first, play)?;
-    let report = replay.report(name)?;
+    let (differences, answers) = (replay.differences.as_str(), replay.answers);
+    let (agreeing, cases) = (replay.agreeing, replay.cases);
+    let report = format!(in rt.alloc();
+        "{differences}{name}: {agreeing} of {cases} cases agree, {answers} lines of answers\n"
+    )?;
     rt.stdout()
         .write_all(report.as_bytes())
         .map_err(|_| PlayError::Io)?;
-    if replay.agreeing == replay.cases {
+    if agreeing == cases {
         Ok(())
     } else {
         Err(PlayError::Differs)
@@ -46,19 +59,6 @@ struct Replay {
 }
 
 impl Replay {
-    fn new(alloc: Global) -> Replay {
-        Replay {
-            alloc,
-            case: String::new(alloc),
-            first: 1,
-            lines: 0,
-            cases: 0,
-            agreeing: 0,
-            answers: 0,
-            differences: String::new(alloc),
-        }
-    }
-
     fn play<P: Play>(
         &mut self,
         recording: &str,
@@ -79,37 +79,26 @@ impl Replay {
     fn end_case<P: Play>(&mut self, play: &mut P) -> Result<(), PlayError> {
         let case = mem::replace(&mut self.case, String::new(self.alloc));
         if !case.is_empty() {
-            self.compare(case.as_str(), replayed(self.alloc, case.as_str(), play))?;
+            let replayed = replayed(self.alloc, case.as_str(), play);
+            let replayed = replayed.unwrap_or(String::new(self.alloc));
+            self.compare(case.as_str(), replayed.as_str())?;
         }
         self.first = self.lines.saturating_add(1);
         Ok(())
     }
 
-    fn compare(
-        &mut self,
-        case: &str,
-        replayed: Result<String, PlayError>,
-    ) -> Result<(), PlayError> {
+    // Counts a case that agrees and its answers, or names the case and the first line that differs.
+    fn compare(&mut self, case: &str, replayed: &str) -> Result<(), PlayError> {
         self.cases = self.cases.saturating_add(1);
-        match replayed {
-            Ok(replayed) if replayed.as_str() == case => self.count(case),
-            Ok(replayed) => self.add_difference(case, replayed.as_str())?,
-            Err(_) => self.add_difference(case, "")?,
-        }
-        Ok(())
-    }
-
-    fn count(&mut self, case: &str) {
-        self.agreeing = self.agreeing.saturating_add(1);
-        for line in case.lines() {
-            if line.starts_with('<') {
-                self.answers = self.answers.saturating_add(1);
+        if replayed == case {
+            self.agreeing = self.agreeing.saturating_add(1);
+            for line in case.lines() {
+                if line.starts_with('<') {
+                    self.answers = self.answers.saturating_add(1);
+                }
             }
+            return Ok(());
         }
-    }
-
-    // Names the case, and the first line that differs.
-    fn add_difference(&mut self, case: &str, replayed: &str) -> Result<(), PlayError> {
         let title = case.lines().next().unwrap_or("");
         let (recorded, own) = first_difference(case, replayed);
         let first = self.first;
@@ -118,19 +107,6 @@ impl Replay {
             "line {first}, {title}: recorded `{recorded}`, here `{own}`"
         )?;
         Ok(())
-    }
-
-    fn report(&self, name: &str) -> Result<String, PlayError> {
-        let Replay {
-            differences,
-            agreeing,
-            cases,
-            answers,
-            ..
-        } = self;
-        Ok(format!(in self.alloc;
-            "{differences}{name}: {agreeing} of {cases} cases agree, {answers} lines of answers\n"
-        )?)
     }
 }
 

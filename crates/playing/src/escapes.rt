@@ -48,22 +48,19 @@ impl Turn<'_> {
             self.push_str(EMPTY);
         }
         for c in text.chars() {
-            self.push_escaped_char(c);
-        }
-    }
-
-    fn push_escaped_char(&mut self, c: char) {
-        match c {
-            ' ' => self.push_str("\\s"),
-            '\\' => self.push_str("\\\\"),
-            '=' | ';' | ',' => self.push(c),
-            _ if c.is_alphanumeric() => self.push(c),
-            _ => write!(self, "\\u{{{:x}}}", c as u32),
+            match c {
+                ' ' => self.push_str("\\s"),
+                '\\' => self.push_str("\\\\"),
+                '=' | ';' | ',' => self.push(c),
+                _ if c.is_alphanumeric() => self.push(c),
+                _ => write!(self, "\\u{{{:x}}}", c as u32),
+            }
         }
     }
 }
 
-// The character of the escape that a text begins with after its backslash, and what follows it.
+// The character of the escape that a text begins with after its backslash, by its letter or by its
+// number, and what follows it.
 fn escaped_char(text: &str) -> Option<(char, &str)>
     ensures { IfSome result (λ found. length found.1.now ≤ length text.now) }
 {
@@ -72,13 +69,6 @@ fn escaped_char(text: &str) -> Option<(char, &str)>
             return Some((c, rest));
         }
     }
-    numbered_char(text)
-}
-
-// The character of the escape `u{H}`, by its number, and what follows it.
-fn numbered_char(text: &str) -> Option<(char, &str)>
-    ensures { IfSome result (λ found. length found.1.now ≤ length text.now) }
-{
     let (digits, rest) = text.strip_prefix("u{")?.split_once('}')?;
     let value = u32::from_str_radix(digits, 16).ok()?;
     Some((char::from_u32(value)?, rest))

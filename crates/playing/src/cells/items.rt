@@ -16,26 +16,22 @@ pub fn answer(turn: &mut Turn<'_>) {
 fn put(turn: &mut Turn<'_>) {
     let mut bytes = Vec::new(turn.alloc);
     for word in turn.rest().split(' ') {
-        put_item(turn, &mut bytes, word);
+        let (kind, value) = word.split_once('=').unwrap_or((word, ""));
+        let put = match kind {
+            "unsigned" => put_unsigned(&mut bytes, turn.number_of(value)),
+            "signed" => put_signed(&mut bytes, turn.distance_of(value)),
+            "text" => put_text(&mut bytes, turn.unescaped(value, ' ').as_str()),
+            "false" => put_bool(&mut bytes, false),
+            "true" => put_bool(&mut bytes, true),
+            "null" => put_null(&mut bytes),
+            "array" => put_array(&mut bytes, turn.number_of(value)),
+            _ => return turn.fail(PlayError::Bad),
+        };
+        turn.note(put);
     }
     for byte in bytes {
         write!(turn, "{byte:02x}");
     }
-}
-
-fn put_item(turn: &mut Turn<'_>, bytes: &mut Vec<u8>, word: &str) {
-    let (kind, value) = word.split_once('=').unwrap_or((word, ""));
-    let put = match kind {
-        "unsigned" => put_unsigned(bytes, turn.number_of(value)),
-        "signed" => put_signed(bytes, turn.distance_of(value)),
-        "text" => put_text(bytes, turn.unescaped(value, ' ').as_str()),
-        "false" => put_bool(bytes, false),
-        "true" => put_bool(bytes, true),
-        "null" => put_null(bytes),
-        "array" => put_array(bytes, turn.number_of(value)),
-        _ => return turn.fail(PlayError::Bad),
-    };
-    turn.note(put);
 }
 
 // What the calls return in turn, and how many bytes are left after them.
@@ -47,28 +43,24 @@ fn read(turn: &mut Turn<'_>) {
         _ => Reader::with_limit(bytes.as_slice(), turn.number_of(limit)),
     };
     for call in turn.rest().split(' ') {
-        push_call(turn, &mut reader, call);
+        let (name, number) = call.split_once('=').unwrap_or((call, "0"));
+        let number = turn.number_of(number);
+        match name {
+            "kind" => turn.push_shown("", reader.kind()),
+            "unsigned" => turn.push_shown("", reader.unsigned()),
+            "below" => turn.push_shown("", reader.below(number)),
+            "signed" => turn.push_shown("", reader.signed()),
+            "text" => turn.push_shown("", reader.text()),
+            "boolean" => turn.push_shown("", reader.boolean()),
+            "null" => turn.push_shown("", reader.null()),
+            "array" => turn.push_shown("", reader.array()),
+            "array-of" => turn.push_shown("", reader.array_of(number)),
+            "list" => turn.push_shown("", reader.list()),
+            _ => turn.fail(PlayError::Bad),
+        }
         turn.push_str(", ");
     }
     write!(turn, "left {}", reader.rest().len());
-}
-
-fn push_call(turn: &mut Turn<'_>, reader: &mut Reader<'_>, call: &str) {
-    let (name, number) = call.split_once('=').unwrap_or((call, "0"));
-    let number = turn.number_of(number);
-    match name {
-        "kind" => turn.push_shown("", reader.kind()),
-        "unsigned" => turn.push_shown("", reader.unsigned()),
-        "below" => turn.push_shown("", reader.below(number)),
-        "signed" => turn.push_shown("", reader.signed()),
-        "text" => turn.push_shown("", reader.text()),
-        "boolean" => turn.push_shown("", reader.boolean()),
-        "null" => turn.push_shown("", reader.null()),
-        "array" => turn.push_shown("", reader.array()),
-        "array-of" => turn.push_shown("", reader.array_of(number)),
-        "list" => turn.push_shown("", reader.list()),
-        _ => turn.fail(PlayError::Bad),
-    }
 }
 
 impl Turn<'_> {

@@ -34,12 +34,8 @@ pub fn answer(turn: &mut Turn<'_>) {
 /// What each fault is in words.
 pub fn faults(turn: &mut Turn<'_>) {
     for fault in FAULTS {
-        push_fault(turn, fault);
+        writeln!(turn, "{fault:?}: {fault}");
     }
-}
-
-fn push_fault(turn: &mut Turn<'_>, fault: LinkError) {
-    writeln!(turn, "{fault:?}: {fault}");
 }
 
 // The link of a sequence's parts, or why it is none. One byte that is no text has a word.
@@ -56,7 +52,7 @@ fn read(turn: &mut Turn<'_>) {
         Ok(Some(link)) => show(turn, &link),
         Ok(None) => turn.push_str("none"),
         Err(LinkError::Memory) => turn.fail(PlayError::Memory),
-        Err(fault) => push_fault(turn, fault),
+        Err(fault) => writeln!(turn, "{fault:?}: {fault}"),
     }
 }
 
@@ -85,21 +81,19 @@ fn link(turn: &mut Turn<'_>) -> Hyperlink {
             let id = turn.owned(own);
             turn.kept(Hyperlink::new_with_id(alloc, uri, id))
         }
-        "params" => Some(Hyperlink::new_with_params(uri, params(turn, own))),
+        "params" => {
+            let mut params = BTreeMap::new(alloc);
+            for pair in own.split(':') {
+                let (key, value) = turn.found(pair.split_once('=')).unwrap_or(("", ""));
+                let (key, value) = (turn.owned(key), turn.owned(value));
+                let inserted = params.insert(key, value);
+                turn.note(inserted);
+            }
+            Some(Hyperlink::new_with_params(uri, params))
+        }
         _ => None,
     };
     let none = Hyperlink::new(alloc, String::new(alloc));
     let link = turn.found(made).unwrap_or(none);
     turn.copied(link, copies)
-}
-
-fn params(turn: &mut Turn<'_>, pairs: &str) -> BTreeMap<String, String> {
-    let mut params = BTreeMap::new(turn.alloc);
-    for pair in pairs.split(':') {
-        let (key, value) = turn.found(pair.split_once('=')).unwrap_or(("", ""));
-        let (key, value) = (turn.owned(key), turn.owned(value));
-        let inserted = params.insert(key, value);
-        turn.note(inserted);
-    }
-    params
 }

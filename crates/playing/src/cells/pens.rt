@@ -1,16 +1,15 @@
 //! Questions about attributes, and the pen that is set.
 use crate::error::PlayError;
 use crate::turn::Turn;
-use termwiz_cell::cell::CellAttributes;
 
-/// What isn't default in a pen, or whether two pens are equal, and whether all but their colours
-/// and links are.
+/// What isn't default in a pen, and whether it is blank; or whether two pens are equal, and whether
+/// all but their colours and links are.
 pub fn answer(turn: &mut Turn<'_>) {
     match turn.word() {
         "show" => {
             let words = turn.rest();
             let pen = turn.pen_of(words, ' ');
-            show(turn, &pen);
+            write!(turn, "{pen:?}, blank {}", pen.is_blank());
         }
         "same" => {
             let (one, other) = turn.sides();
@@ -20,9 +19,4 @@ pub fn answer(turn: &mut Turn<'_>) {
         }
         _ => turn.fail(PlayError::Bad),
     }
-}
-
-/// What isn't default, and whether it is blank.
-pub fn show(turn: &mut Turn<'_>, pen: &CellAttributes) {
-    write!(turn, "{pen:?}, blank {}", pen.is_blank());
 }

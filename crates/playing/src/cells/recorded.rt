@@ -17,8 +17,13 @@ impl Play for Player {
         if turn.takes("> parse") {
             parse(turn);
         } else if turn.takes("> color ") {
-            let color = RgbColor::new_8bpc(part(turn), part(turn), part(turn));
-            turn.push_texts(color, " ");
+            let mut parts = [0_u8; 3];
+            for part in &mut parts {
+                let word = turn.word();
+                *part = turn.found(word.parse().ok()).unwrap_or(0);
+            }
+            let [red, green, blue] = parts;
+            turn.push_texts(RgbColor::new_8bpc(red, green, blue), " ");
         } else {
             turn.fail(PlayError::Bad);
         }
@@ -59,10 +64,4 @@ fn push_link(turn: &mut Turn<'_>, link: &Hyperlink) {
             turn.push_word("\nshown ", text.as_str());
         }
     }
-}
-
-// The part of a colour that the next word writes.
-fn part(turn: &mut Turn<'_>) -> u8 {
-    let part = turn.word().parse().ok();
-    turn.found(part).unwrap_or(0)
 }

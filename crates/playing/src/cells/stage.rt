@@ -26,8 +26,21 @@ impl Play for Stage {
                 let word = turn.rest();
                 turn.put(&mut self.pen, word);
             }
-            "free" => self.set_free(turn),
-            "pen" if turn.is_read() => pens::show(turn, &self.pen),
+            "free" => {
+                // What takes memory that is refused in this turn of its own fails with `Differs`.
+                let own = Turn::new(turn.alloc, turn.rest());
+                if let Some(mut own) = turn.kept(own) {
+                    let word = own.rest();
+                    own.put(&mut self.pen, word);
+                    if own.has_failed() {
+                        turn.fail(PlayError::Differs);
+                    }
+                }
+            }
+            "pen" if turn.is_read() => {
+                let pen = &self.pen;
+                write!(turn, "{pen:?}, blank {}", pen.is_blank());
+            }
             topic => answer(turn, topic),
         }
     }
@@ -39,30 +52,15 @@ impl Stage {
             pen: CellAttributes::blank(),
         }
     }
-
-    // Sets the pen in a turn of its own. What takes memory that is refused there fails with
-    // `Differs`.
-    fn set_free(&mut self, turn: &mut Turn<'_>) {
-        let own = Turn::new(turn.alloc, turn.rest());
-        if let Some(mut own) = turn.kept(own) {
-            let word = own.rest();
-            own.put(&mut self.pen, word);
-            if own.has_failed() {
-                turn.fail(PlayError::Differs);
-            }
-        }
-    }
 }
 
 fn answer(turn: &mut Turn<'_>, topic: &str) {
     match topic {
-        "colour" => values::color(turn),
-        "ansi" | "spec" => values::specs(turn, topic),
+        "colour" | "ansi" | "spec" => values::colors(turn, topic),
         "columns" | "form" | "white" => values::widths(turn, topic),
         "version" => values::version(turn),
         "defaults" => values::defaults(turn),
-        "styles" => values::styles(turn),
-        "order" => values::order(turn),
+        "styles" | "order" => values::styles(turn, topic),
         "link" => links::answer(turn),
         "faults" => links::faults(turn),
         "pen" => pens::answer(turn),

@@ -48,7 +48,13 @@ pub fn answer(turn: &mut Turn<'_>, topic: &str) {
         "run" | "runs" => turn.word(),
         _ => "",
     };
-    let text = repeated(turn);
+    // The text of a word, or N times that text where `N*` stands before it.
+    let word = turn.word();
+    let (count, word) = word.split_once('*').unwrap_or(("1", word));
+    let count = turn.number_of(count);
+    let text = turn.unescaped(word, ' ');
+    let repeated = text.as_str().repeat(turn.alloc, count);
+    let text = turn.kept(repeated).unwrap_or(text);
     let text = text.as_str();
     match topic {
         "cut" => push_pieces(turn, Graphemes::new(text).collect(turn.alloc)),
@@ -63,16 +69,6 @@ pub fn answer(turn: &mut Turn<'_>, topic: &str) {
         "grows" => grows(turn, text),
         _ => turn.fail(PlayError::Bad),
     }
-}
-
-// The text of a word, or of `N*` and a word: N times that text.
-fn repeated(turn: &mut Turn<'_>) -> String {
-    let word = turn.word();
-    let (count, word) = word.split_once('*').unwrap_or(("1", word));
-    let count = turn.number_of(count);
-    let text = turn.unescaped(word, ' ');
-    let repeated = text.as_str().repeat(turn.alloc, count);
-    turn.kept(repeated).unwrap_or(text)
 }
 
 // Graphemes with a bar after each.

@@ -20,17 +20,6 @@ const CLASSIC: [(&str, AnsiColor); 6] = [
     ("white", AnsiColor::White),
 ];
 
-/// The parts of the colour that a text writes, and its texts, or none.
-pub fn color(turn: &mut Turn<'_>) {
-    match RgbColor::from_rgb_str(turn.quoted()) {
-        Some(color) => {
-            write!(turn, "{:?}, ", color.to_tuple_rgb8());
-            turn.push_texts(color, ", ");
-        }
-        None => turn.push_str("none"),
-    }
-}
-
 impl Turn<'_> {
     /// Answers both texts of a colour, with `between` between them.
     pub(crate) fn push_texts(&mut self, color: RgbColor, between: &str) {
@@ -40,19 +29,29 @@ impl Turn<'_> {
     }
 }
 
-/// The index of a classic colour, and what it, or a true one, is as the colour of a sequence and
-/// of a cell.
-pub fn specs(turn: &mut Turn<'_>, topic: &str) {
-    if topic == "ansi" {
-        let color = turn.named(&CLASSIC, AnsiColor::Black);
-        let (index, spec) = (u8::from(color), ColorSpec::from(color));
-        let own = ColorAttribute::from(color);
-        write!(turn, "{index}, {spec:?}, {own:?}");
-    } else {
-        let color = RgbColor::from_rgb_str(turn.word());
-        let spec = ColorSpec::from(turn.found(color).unwrap_or(RgbColor::default()));
-        let own = ColorAttribute::from(spec);
-        write!(turn, "{spec:?}, {own:?}");
+/// The parts of the colour that a text writes, and its texts, or none; or the index of a classic
+/// colour, and what it, or a true one, is as the colour of a sequence and of a cell.
+pub fn colors(turn: &mut Turn<'_>, topic: &str) {
+    match topic {
+        "colour" => match RgbColor::from_rgb_str(turn.quoted()) {
+            Some(color) => {
+                write!(turn, "{:?}, ", color.to_tuple_rgb8());
+                turn.push_texts(color, ", ");
+            }
+            None => turn.push_str("none"),
+        },
+        "ansi" => {
+            let color = turn.named(&CLASSIC, AnsiColor::Black);
+            let (index, spec) = (u8::from(color), ColorSpec::from(color));
+            let own = ColorAttribute::from(color);
+            write!(turn, "{index}, {spec:?}, {own:?}");
+        }
+        _ => {
+            let color = RgbColor::from_rgb_str(turn.word());
+            let spec = ColorSpec::from(turn.found(color).unwrap_or(RgbColor::default()));
+            let own = ColorAttribute::from(spec);
+            write!(turn, "{spec:?}, {own:?}");
+        }
     }
 }
 
@@ -112,14 +111,13 @@ pub fn defaults(turn: &mut Turn<'_>) {
     turn.push_shown(", ", LATEST_UNICODE_VERSION);
 }
 
-/// Whether a line below the text and one that is none, and no way to blink, are on.
-pub fn styles(turn: &mut Turn<'_>) {
-    let (dashed, none) = (bool::from(Underline::Dashed), bool::from(Blink::None));
-    write!(turn, "Underline::Dashed {dashed}, Blink::None {none}");
-}
-
-/// Whether one semantic type is below another, and whether the other is at most that one.
-pub fn order(turn: &mut Turn<'_>) {
+/// Whether a line below the text and no way to blink are on; or whether one semantic type is below
+/// another, and whether the other is at most that one.
+pub fn styles(turn: &mut Turn<'_>, topic: &str) {
+    if topic == "styles" {
+        let (dashed, none) = (bool::from(Underline::Dashed), bool::from(Blink::None));
+        return write!(turn, "Underline::Dashed {dashed}, Blink::None {none}");
+    }
     let lower = turn.named(&SEMANTIC_TYPES, SemanticType::Output);
     turn.takes("| ");
     let higher = turn.named(&SEMANTIC_TYPES, SemanticType::Output);

@@ -133,19 +133,15 @@ fn push_state(line: &mut Line, name: &str, turn: &mut Turn<'_>) {
                 write!(turn, "{:?} {:?}|", zone.semantic_type, zone.range);
             }
         }
-        _ => push_truth(line, name, turn),
+        "spaces" => write!(turn, "{}", line.is_whitespace()),
+        "link" => write!(turn, "{}", line.has_hyperlink()),
+        "marked" => write!(turn, "{}", line.last_cell_was_wrapped()),
+        "fresh" => {
+            let fresh = is_fresh(line, turn);
+            write!(turn, "{fresh}");
+        }
+        _ => turn.fail(PlayError::Bad),
     }
-}
-
-fn push_truth(line: &mut Line, name: &str, turn: &mut Turn<'_>) {
-    let holds = match name {
-        "spaces" => line.is_whitespace(),
-        "link" => line.has_hyperlink(),
-        "marked" => line.last_cell_was_wrapped(),
-        "fresh" => is_fresh(line, turn),
-        _ => return turn.fail(PlayError::Bad),
-    };
-    write!(turn, "{holds}");
 }
 
 // Whether the zones are those of a copy, which keeps none.

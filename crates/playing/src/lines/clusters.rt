@@ -10,7 +10,8 @@ use termwiz_line::line::line::Line;
 /// - `clusters`: its text after its column and its width, as `0:2か|2:1a|`; `cell-clusters`: this of
 ///   the clusters that are made of the visible cells; `recorded`: this in the form of recorded
 ///   answers.
-/// - `bytes`: the cells of its bytes, of the first cluster alone.
+/// - `bytes`: the column and the width of each byte's cell, as `0:2|0:2|0:2|2:1|`, of the first
+///   cluster alone.
 /// - `looks`: its pen, how it is shown and where to.
 /// - `cluster-copies`: whether its copy has the same cells of its bytes.
 pub fn push_clusters(form: &str, line: &Line, turn: &mut Turn<'_>) {
@@ -35,7 +36,13 @@ fn push_cluster(form: &str, cluster: &CellCluster, turn: &mut Turn<'_>) {
             turn.push_escaped(text);
             write!(turn, "/{width}");
         }
-        "bytes" if column == 0 => push_bytes(cluster, turn),
+        "bytes" if column == 0 => {
+            for byte in 0..text.len() {
+                let column = cluster.byte_to_cell_idx(byte);
+                let width = cluster.byte_to_cell_width(byte);
+                write!(turn, "{column}:{width}|");
+            }
+        }
         "bytes" => {}
         "looks" => {
             turn.push_str("pen ");
@@ -48,16 +55,6 @@ fn push_cluster(form: &str, cluster: &CellCluster, turn: &mut Turn<'_>) {
         }
         "cluster-copies" => push_copied(cluster, turn),
         _ => write!(turn, "{column}:{width}{text}|"),
-    }
-}
-
-// The column and the width of each byte's cell, as `0:2|0:2|0:2|2:1|`.
-fn push_bytes(cluster: &CellCluster, turn: &mut Turn<'_>) {
-    let count = cluster.text.len();
-    for byte in 0..count {
-        let column = cluster.byte_to_cell_idx(byte);
-        let width = cluster.byte_to_cell_width(byte);
-        write!(turn, "{column}:{width}|");
     }
 }
 

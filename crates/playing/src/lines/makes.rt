@@ -9,7 +9,14 @@ use termwiz_line::line::line::Line;
 pub fn make(name: &str, turn: &mut Turn<'_>) -> Option<Line> {
     match name {
         "set" => set(turn),
-        "cells" => of_cells(turn),
+        "cells" => {
+            let (seqno, mut cells) = (turn.number(), Vec::new(turn.alloc));
+            for word in turn.rest().split_terminator(' ') {
+                let pushed = cells.push(cell(word, turn));
+                turn.note(pushed);
+            }
+            Some(Line::from_cells(cells, seqno))
+        }
         "empty" => Some(Line::new(turn.alloc, turn.number())),
         "blanks" => {
             let (width, seqno) = turn.pair();
@@ -36,16 +43,6 @@ fn set(turn: &mut Turn<'_>) -> Option<Line> {
         turn.note(line.set_cell(at, cell, 0));
     }
     Some(line)
-}
-
-fn of_cells(turn: &mut Turn<'_>) -> Option<Line> {
-    let seqno = turn.number();
-    let mut cells = Vec::new(turn.alloc);
-    for word in turn.rest().split_terminator(' ') {
-        let pushed = cells.push(cell(word, turn));
-        turn.note(pushed);
-    }
-    Some(Line::from_cells(cells, seqno))
 }
 
 fn in_pen(name: &str, turn: &mut Turn<'_>) -> Option<Line> {

@@ -24,28 +24,31 @@ pub fn push_pen(attrs: &CellAttributes, turn: &mut Turn<'_>) {
     }
 }
 
+// Adds the words that hold, each with a comma before it.
 fn push_words(attrs: &CellAttributes, list: &mut Turn<'_>) {
-    push_word(true, name_of(&INTENSITIES, &attrs.intensity()), list);
-    push_word(true, name_of(&UNDERLINES, &attrs.underline()), list);
-    push_word(true, name_of(&BLINKS, &attrs.blink()), list);
-    push_word(attrs.italic(), "italic", list);
-    push_word(attrs.reverse(), "reverse", list);
-    push_word(attrs.strikethrough(), "strike", list);
-    push_word(attrs.invisible(), "invisible", list);
-    push_word(attrs.wrapped(), "wrapped", list);
-    push_word(attrs.overline(), "overline", list);
     let kind = attrs.semantic_type();
-    push_word(
-        kind != SemanticType::Output,
-        name_of(&SEMANTIC_TYPES, &kind),
-        list,
-    );
-    push_word(
-        true,
-        name_of(&VERTICAL_ALIGNS, &attrs.vertical_align()),
-        list,
-    );
-    push_word(attrs.hyperlink().is_some(), "link", list);
+    for (holds, word) in [
+        (true, name_of(&INTENSITIES, &attrs.intensity())),
+        (true, name_of(&UNDERLINES, &attrs.underline())),
+        (true, name_of(&BLINKS, &attrs.blink())),
+        (attrs.italic(), "italic"),
+        (attrs.reverse(), "reverse"),
+        (attrs.strikethrough(), "strike"),
+        (attrs.invisible(), "invisible"),
+        (attrs.wrapped(), "wrapped"),
+        (attrs.overline(), "overline"),
+        (
+            kind != SemanticType::Output,
+            name_of(&SEMANTIC_TYPES, &kind),
+        ),
+        (true, name_of(&VERTICAL_ALIGNS, &attrs.vertical_align())),
+        (attrs.hyperlink().is_some(), "link"),
+    ] {
+        if holds && !word.is_empty() {
+            list.push(',');
+            list.push_str(word);
+        }
+    }
     for (name, color) in [
         (",fg=", attrs.foreground()),
         (",bg=", attrs.background()),
@@ -58,45 +61,30 @@ fn push_words(attrs: &CellAttributes, list: &mut Turn<'_>) {
     }
 }
 
-// Adds a word with a comma before it, where it holds and isn't empty.
-fn push_word(holds: bool, word: &str, list: &mut Turn<'_>) {
-    if holds && !word.is_empty() {
-        list.push(',');
-        list.push_str(word);
-    }
-}
-
 /// Answers the changes that write the line where a pen is set, each with `|` after it, or by the
 /// words of `entries`, which are those of recorded answers, or, of `lengths`, how many bytes each
 /// text has.
 pub fn push_changes(form: &str, line: &Line, pen: &CellAttributes, turn: &mut Turn<'_>) {
-    if let Some(changes) = turn.kept(line.changes(pen)) {
-        for change in &changes {
-            push_change(form, change, turn);
-        }
-    }
-}
-
-// Answers a change in one of these forms.
-fn push_change(form: &str, change: &Change, turn: &mut Turn<'_>) {
+    let Some(changes) = turn.kept(line.changes(pen)) else {
+        return;
+    };
     let recorded = form == "entries";
-    match change {
-        Change::Text(text) if recorded => {
-            turn.push_str(" text=");
-            turn.push_escaped(text.as_str());
+    for change in &changes {
+        match change {
+            Change::Text(text) if recorded => turn.push_word(" text=", text.as_str()),
+            Change::Text(text) if form == "lengths" => write!(turn, "{}|", text.len()),
+            Change::Text(text) => write!(turn, "text {text}|"),
+            _ if form == "lengths" => {}
+            Change::AllAttributes(attrs) => {
+                turn.push_str(if recorded { " pen=" } else { "pen " });
+                push_pen(attrs, turn);
+                turn.push_str(if recorded { "" } else { "|" });
+            }
+            Change::ClearToEndOfLine(color) if recorded => {
+                turn.push_str(" eol=");
+                turn.push_color(*color);
+            }
+            _ => write!(turn, "{change:?}|"),
         }
-        Change::Text(text) if form == "lengths" => write!(turn, "{}|", text.len()),
-        Change::Text(text) => write!(turn, "text {text}|"),
-        _ if form == "lengths" => {}
-        Change::AllAttributes(attrs) => {
-            turn.push_str(if recorded { " pen=" } else { "pen " });
-            push_pen(attrs, turn);
-            turn.push_str(if recorded { "" } else { "|" });
-        }
-        Change::ClearToEndOfLine(color) if recorded => {
-            turn.push_str(" eol=");
-            turn.push_color(*color);
-        }
-        _ => write!(turn, "{change:?}|"),
     }
 }

@@ -8,6 +8,7 @@ use crate::turn::Turn;
 use crate::words::name_of;
 use termwiz_cell::cell::CellAttributes;
 use termwiz_cell::emoji::UnicodeWidths;
+use termwiz_line::line::bidi::ParagraphDirectionHint;
 use termwiz_line::line::line::{DoubleClickRange, Line};
 
 /// The words of truths.
@@ -38,15 +39,11 @@ pub fn push_pieces(pieces: &[Line], turn: &mut Turn<'_>) {
 pub fn push_kept(line: &Line, turn: &mut Turn<'_>) {
     write!(turn, "{} {}", line.len(), line.current_seqno());
     push_copied("kept", line, turn);
-    let (size, direction, hint) = flags(line);
-    if size != "single" || direction != "plain" || hint != "ltr" {
-        push_flags(line, turn);
+    let (enabled, hint) = line.bidi_info();
+    if enabled || hint != ParagraphDirectionHint::LeftToRight || !line.is_single_width() {
+        let (size, direction, hint) = flags(line);
+        write!(turn, " flags {size} {direction} {hint}");
     }
-}
-
-fn push_flags(line: &Line, turn: &mut Turn<'_>) {
-    let (size, direction, hint) = flags(line);
-    write!(turn, " flags {size} {direction} {hint}");
 }
 
 // Answers the stored cells of a copy.
@@ -88,7 +85,12 @@ pub fn push_readings(line: &Line, all: bool, turn: &mut Turn<'_>) {
         turn.push_str("\nstored");
         push_copied("recorded", line, turn);
     }
-    push_columns(line, turn);
+    turn.push_str("\ncolumns");
+    for columns in [1..3, 2..usize::MAX, 3..1, 0..line.len()] {
+        if let Some(text) = turn.kept(line.columns_as_str(columns)) {
+            turn.push_word(" ", text.as_str());
+        }
+    }
     push_ranges(line, turn);
     if all || keeps_apart(line, turn) {
         turn.push_str("\nentries");
@@ -99,17 +101,6 @@ pub fn push_readings(line: &Line, all: bool, turn: &mut Turn<'_>) {
     if all || !cells.any(|cell| cell.str().len() == 1 && cell.width() > 1) {
         turn.push_str("\nclusters");
         push_clusters("recorded", line, turn);
-    }
-}
-
-// Texts of columns.
-fn push_columns(line: &Line, turn: &mut Turn<'_>) {
-    turn.push_str("\ncolumns");
-    for columns in [1..3, 2..usize::MAX, 3..1, 0..line.len()] {
-        if let Some(text) = turn.kept(line.columns_as_str(columns)) {
-            turn.push(' ');
-            turn.push_escaped(text.as_str());
-        }
     }
 }
 

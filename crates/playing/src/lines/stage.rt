@@ -23,7 +23,14 @@ pub struct Stage {
 impl Play for Stage {
     fn line(&mut self, turn: &mut Turn<'_>) {
         match turn.word() {
-            "case" => self.begin(turn),
+            "case" => {
+                self.on = 0;
+                self.lines = Vec::new(turn.alloc);
+                let registers = if turn.is_read() { REGISTERS } else { 0 };
+                for _ in 0..registers {
+                    turn.note(self.lines.push(Line::new(turn.alloc, 0)));
+                }
+            }
             ">" => self.call(turn),
             "ask" => self.ask(turn),
             "wrap" => {
@@ -45,15 +52,6 @@ impl Stage {
             lines: Vec::new(alloc),
             on: 0,
             compresses,
-        }
-    }
-
-    fn begin(&mut self, turn: &mut Turn<'_>) {
-        self.on = 0;
-        self.lines = Vec::new(turn.alloc);
-        let registers = if turn.is_read() { REGISTERS } else { 0 };
-        for _ in 0..registers {
-            turn.note(self.lines.push(Line::new(turn.alloc, 0)));
         }
     }
 

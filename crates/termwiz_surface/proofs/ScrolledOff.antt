@@ -29,7 +29,7 @@ use Rattle.termwiz_screen.specs.Sides.{row_flags}
 use Rattle.termwiz_screen.proofs.Lines.{row-read}
 use Rattle.termwiz_screen.specs.Step.{step, step_kept, replay, replay_kept, region_fits, regions_fit}
 use Rattle.termwiz_surface.specs.Printing.{PrintsFirst}
-use Rattle.termwiz_surface.specs.ScrolledOff.{BeginsRows, LeavesRows, ScrollsOff, ShownRow, first_leaves, first_rows, left_behind_first, left_by, left_one, left_step, line_shown, moves_down, row_shown, rows_scrolled_off, top_leaves, topped}
+use Rattle.termwiz_surface.specs.ScrolledOff.{BeginsRows, KeepsTop, LeavesRows, ScrollsOff, ShownRow, first_leaves, first_rows, left_behind_first, left_by, left_one, left_step, line_shown, moves_down, row_shown, rows_scrolled_off, top_leaves, topped}
 use Rattle.termwiz_surface.specs.Surface.{SurfaceValue, IsSound, SameFrame, Becomes, screen_of, kept_of, lengths_of}
 use Rattle.termwiz_line.proofs.StoredRows.{row_blank}
 use Rattle.termwiz_screen.proofs.Stored.{IsLawful}
@@ -317,8 +317,46 @@ module _ {W : Type 0} (f : List ℕ → ℕ) (old mid new : SurfaceValue W) (tex
         is_text = p.is_text;
       }
 
-  pub prints-first_over : PrintsFirst f old text rest new
+  prints-first_over : PrintsFirst f old text rest new
   prints-first_over = prints-over p.printed refl
+
+-- row 0 was kept, if it had to be, before graphemes are printed
+module _ {W : Type 0} (f : List ℕ → ℕ) (keeps : Bool) (old mid : SurfaceValue W) (text : List ℕ) (u v : List LineValue) (top : KeepsTop f keeps (graphemes true text) old u mid v) where
+  pub top-widths : mid.widths ≡ old.widths
+  top-widths = elim top [ inl stays ↦ ap (λ (s : SurfaceValue W). s.widths) stays.0 | inr leaves ↦ leaves.1.widths ]
+
+  pub top-frame : (new : SurfaceValue W) → SameFrame mid new → SameFrame old new
+  top-frame new frame = elim top [
+    | inl stays ↦ subst (λ (s : SurfaceValue W). SameFrame s new) stays.0 frame
+    | inr leaves ↦ let b = leaves.1 in
+        record { widths = frame.widths ∙ b.widths; width = frame.width ∙ b.width; height = frame.height ∙ b.height; full = frame.full ∙ b.full; log = frame.log ∙ b.log }
+  ]
+
+  pub top-prints : (new : SurfaceValue W) (rest : List ℕ) → IsUtf8 text → PrintsFirst f mid text rest new → PrintsFirst f old text rest new
+  top-prints new rest is_text p = elim top [
+    | inl stays ↦ subst (λ (s : SurfaceValue W). PrintsFirst f s text rest new) stays.0 p
+    | inr leaves ↦ prints-first_over f old mid new text rest is_text leaves.1 leaves.0 p
+  ]
+
+  pub top-leaves : (t : Screen) (m : Kept) (hs : List (List ℕ)) → left_behind_first f (screen_of mid) (kept_of mid) (graphemes true text) ≡ left_by f t m hs → IsTrue keeps → LeavesRows old.width (left_by f (screen_of old) (kept_of old) (graphemes true text)) (left_by f t m hs) u v
+  top-leaves t m hs e on =
+      let gs : List (List ℕ) = graphemes true text in
+      let s : Screen = screen_of old in
+      let k : Kept = kept_of old in
+      elim top [
+        | inl stays ↦
+            let here : left_behind_first f s k gs ≡ left_by f t m hs = subst (λ (r : SurfaceValue W). left_behind_first f (screen_of r) (kept_of r) gs ≡ left_by f t m hs) stays.0 e in
+            subst (λ (x : List LineValue). LeavesRows old.width (left_by f s k gs) (left_by f t m hs) u x) (sym (stays.1 on).1) (leaves-none f s k t m gs hs u (stays.1 on).0 here)
+        | inr leaves ↦
+            let over : left_behind_first f (blanked s) (blanked_kept s k) gs ≡ left_by f t m hs = sym (ap₂ (λ (z : Screen) (q : Kept). left_behind_first f z q gs) leaves.1.screen_is leaves.1.kept_is) ∙ e in
+            leaves-top f s k t m gs hs u v leaves.0 over leaves.2
+      ]
+
+  pub top-begins : IsTrue keeps → BeginsRows old.width (left_by f (screen_of old) (kept_of old) (graphemes true text)) u v
+  top-begins on = elim top [
+    | inl stays ↦ begins-eq old.width (left_by f (screen_of old) (kept_of old) (graphemes true text)) u v (stays.1 on).1
+    | inr leaves ↦ begins-top f (screen_of old) (kept_of old) (graphemes true text) u v leaves.0 (begins-leaves old.width (first_rows (screen_of old) (kept_of old) 1) [] u v leaves.2)
+  ]
 
 -- ---- a row is taken
 
@@ -552,27 +590,9 @@ module _ {W : Type 0} (keeps : Bool) (f : List ℕ → ℕ) (r : SurfaceValue W)
         begins-then r.width (rows_scrolled_off f (screen_of r) (kept_of r) all) (rows_scrolled_off f (screen_of s) (kept_of s) (c ∷ left)) u v x (p.leaves on)
         (begins-before r.width (left_step f (screen_of s) (kept_of s) c) (rows_scrolled_off f (step f (screen_of s) c) (step_kept f (screen_of s) (kept_of s) c) left) (rows_scrolled_off f (screen_of s) (kept_of s) (c ∷ left)) v x refl own)
 
--- a list of one change
-module _ {W : Type 0} (keeps : Bool) (f : List ℕ → ℕ) (r : SurfaceValue W) (c : ChangeValue) (u : List LineValue) (fit : regions_fit r.height (c ∷ []) ≡ true) where
-  one_begun : AppliesPart keeps f r (c ∷ []) (c ∷ []) u r u
-  one_begun = part-none keeps f r (c ∷ []) u fit
-
-  pub one-begins : (x : List LineValue) → (IsTrue keeps → BeginsRows r.width (left_step f (screen_of r) (kept_of r) c) u x) → IsTrue keeps → BeginsRows r.width (rows_scrolled_off f (screen_of r) (kept_of r) (c ∷ [])) u x
-  one-begins x begins = part-begins keeps f r (c ∷ []) u c [] r u one_begun x begins
-
-  module _ (t : SurfaceValue W) (x : List LineValue) (b : Becomes r (step f (screen_of r) c) (step_kept f (screen_of r) (kept_of r) c) (touches f (screen_of r) c) t) (off : IsTrue keeps → ScrollsOff r.width (left_step f (screen_of r) (kept_of r) c) u x) where
-    one_done : AppliesPart keeps f r (c ∷ []) [] u t x
-    one_done = part-more keeps f r (c ∷ []) u c [] r u one_begun t x b off
-
-    pub one-becomes : Becomes r (replay f (screen_of r) (c ∷ [])) (replay_kept f (screen_of r) (kept_of r) (c ∷ [])) (touched f (screen_of r) (c ∷ [])) t
-    one-becomes = part-all keeps f r (c ∷ []) u t x one_done
-
-    pub one-off : IsTrue keeps → ScrollsOff r.width (rows_scrolled_off f (screen_of r) (kept_of r) (c ∷ [])) u x
-    one-off = part-off keeps f r (c ∷ []) u t x one_done
-
 -- the next one of the changes that are left
-pub mapped-next : {X : Type 0} (f : X → ChangeValue) (xs : List X) (i : ℕ) (x : X) → i < length xs → x ≡ get_or xs i x → map f (drop i xs) ≡ f x ∷ map f (drop (i + 1) xs)
-mapped-next {X = X} f xs i x inside e = at_drop_more (λ (ys : List X). map f ys) xs i x inside ∙ ap (λ (y : X). f y ∷ map f (drop (i + 1) xs)) (sym e)
+pub drop-next : {X : Type 0} (xs : List X) (i : ℕ) (x : X) → i < length xs → x ≡ get_or xs i x → drop i xs ≡ x ∷ drop (i + 1) xs
+drop-next {X = X} xs i x inside e = at_drop_more (λ (ys : List X). ys) xs i x inside ∙ ap (λ (y : X). y ∷ drop (i + 1) xs) (sym e)
 
 -- this holds at an error, where lines are kept
 pub on-err : {T E : Type 0} (keeps : Bool) (result : Result T E) {P : Type 0} → (IsTrue keeps → P) → OnErr result (IsTrue keeps → P)

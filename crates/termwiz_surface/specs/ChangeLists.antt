@@ -1,12 +1,16 @@
 -- Lists of changes that are added to a surface, logged or not.
-use Rattle.std.specs.Prelude.{ℕ, Bool, true, false, List, [], ◌∷◌, map, Result}
+use Rattle.std.specs.Prelude.{ℕ, Bool, true, false, List, [], ◌∷◌, map, length, Result}
+use Rattle.termwiz_cell.specs.ChangeValue as change
 use Rattle.termwiz_cell.specs.ChangeValue.{ChangeValue, change_value}
+use Rattle.termwiz_screen.specs.Log.{LogValue, appended, passed}
 use Rattle.termwiz_surface.specs.Adding.{Adds, Makes}
 use Rattle.termwiz_surface.specs.Surface.{SurfaceValue}
 use Rattle.termwiz_surface.specs.Unlogged.{AddsUnlogged, MakesUnlogged, lent_value}
 use Rattle.termwiz_surface.specs.declared.surface.SurfaceError.{SurfaceError}
 use Rattle.termwiz_surface.specs.declared.surface.lists.ChangeList.{ChangeList}
 use Rattle.termwiz_surface.specs.declared.surface.lists.ChangeList.TheVariants.{One, Owned, Lent, Unlogged}
+use Rattle.termwiz_surface.specs.declared.surface.lists.ListedChange.{ListedChange}
+use Rattle.termwiz_surface.specs.declared.surface.lists.ListedChange.TheVariants.{Text, Title, Whole}
 
 -- the changes of a list
 abbrev pub change_list : ChangeList → List ChangeValue
@@ -21,6 +25,19 @@ is_logged (One change) = true
 is_logged (Owned changes) = true
 is_logged (Lent changes) = true
 is_logged (Unlogged changes) = false
+
+-- the change that one of a list is
+abbrev pub listed_value : ListedChange → ChangeValue
+listed_value (Text text) = change.Text text.now
+listed_value (Title title) = change.Title title.now
+listed_value (Whole change) = change_value change.now
+
+-- the log after the changes of a list, which are logged or counted
+abbrev pub log_after : LogValue → ChangeList → LogValue
+log_after log (Unlogged changes) = passed log (length (map lent_value changes.0.now))
+log_after log (One change) = appended log (change_value change ∷ [])
+log_after log (Owned changes) = appended log (map change_value changes.items)
+log_after log (Lent changes) = appended log (map change_value changes.now)
 
 module _ {W : Type 0} where
   -- the changes of a list are made, and logged where they are to be

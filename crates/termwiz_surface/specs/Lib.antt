@@ -60,7 +60,7 @@ pub use Rattle.termwiz_surface.specs.RowNumbers.{HasStayed, NumbersRows, Numbers
 pub use Rattle.termwiz_surface.specs.Touching.{touched, touches, touched_by, one_touches, piece_touches, eol_touches, scroll_touches, wrap_touches, down_touches, cursor_row, every_row, no_row}
 pub use Rattle.termwiz_surface.specs.Adding.{Adds, Makes, with_log, marking}
 pub use Rattle.termwiz_surface.specs.Unlogged.{AddsUnlogged, MakesUnlogged, lent_value}
-pub use Rattle.termwiz_surface.specs.ChangeLists.{AddsList, MakesList, change_list, is_logged}
+pub use Rattle.termwiz_surface.specs.ChangeLists.{AddsList, MakesList, change_list, is_logged, listed_value, log_after}
 pub use Rattle.termwiz_surface.specs.Measuring.{AreMeasured}
 pub use Rattle.termwiz_surface.specs.Scrollback.{spare_lines}
 pub use Rattle.termwiz_surface.specs.ScrolledOff.{AddsScrolledOff, BeginsRows, ScrollsOff, ShownRow, first_rows, left_by, left_one, left_piece, left_region, left_step, line_shown, row_shown, rows_scrolled_off}
@@ -166,7 +166,7 @@ pub use Rattle.termwiz_surface.specs.Printing.{PrintsFirst, PrintsGraphemes}
 pub use Rattle.termwiz_surface.specs.Schedule.{Acts, Allows, IsInRange, IsScheduleOf, ReportsOutcome, Views, with_empty_log}
 pub use Rattle.termwiz_surface.specs.ScheduleLaws.{BrokenListsLeaveForm, FollowedFullLeadOn, FollowedLeadOn, LackMemory, LackNumbers}
 pub use Rattle.termwiz_surface.specs.RowNumbers.{AreMarked, AreRenewed}
-pub use Rattle.termwiz_surface.specs.ScrolledOff.{LeavesRows, first_leaves, left_behind_first, moves_down, top_leaves, topped}
+pub use Rattle.termwiz_surface.specs.ScrolledOff.{KeepsTop, LeavesRows, first_leaves, left_behind_first, moves_down, top_leaves, topped}
 pub use Rattle.termwiz_surface.specs.Surface.{Becomes, lengths_of, numbers_over}
 pub use Rattle.termwiz_surface.specs.declared.surface.SurfaceError.TheVariants.{ScrollRegion}
 pub use Rattle.unicode_segmentation.specs.Grapheme.{graphemes}

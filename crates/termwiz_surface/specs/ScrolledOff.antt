@@ -1,7 +1,7 @@
 -- The rows that changes scroll off the top of a screen, and the lines that then hold them.
-use Rattle.std.specs.Prelude.{◌≡◌, ℕ, zero, suc, ◌==◌, min, Bool, true, false, not, ◌&&◌, List, [], ◌∷◌, ◌++◌, map, drop, replicate, slice_index_or, Result, Ok, Err, if◌then◌else◌}
+use Rattle.std.specs.Prelude.{◌≡◌, ℕ, zero, suc, ◌==◌, ◌⊎◌, min, Bool, IsTrue, true, false, not, ◌&&◌, List, [], ◌∷◌, ◌++◌, map, drop, replicate, set, slice_index_or, Result, Ok, Err, if◌then◌else◌}
 use Rattle.unicode_segmentation.specs.Grapheme.{graphemes}
-use Rattle.termwiz_cell.specs.CellValue.{CellValue}
+use Rattle.termwiz_cell.specs.CellValue.{CellValue, blank}
 use Rattle.termwiz_cell.specs.ChangeValue as change
 use Rattle.termwiz_cell.specs.ChangeValue.{ChangeValue}
 use Rattle.termwiz_line.specs.LineFlags.{LineFlags, no_flags}
@@ -13,6 +13,7 @@ use Rattle.termwiz_screen.specs.Screen.{Screen, row_at}
 use Rattle.termwiz_screen.specs.Step.{step, step_kept}
 use Rattle.termwiz_screen.specs.declared.print.Piece.{Piece}
 use Rattle.termwiz_screen.specs.declared.print.Piece.TheVariants.{CarriageReturn, LineFeed, CarriageReturnLineFeed, Cell}
+use Rattle.termwiz_surface.specs.Surface.{SurfaceValue, Becomes, kept_of, screen_of}
 use Rattle.termwiz_surface.specs.declared.surface.SurfaceError.{SurfaceError}
 use Rattle.termwiz_surface.specs.declared.surface.SurfaceError.TheVariants.{ScrollRegion, Numbers, Memory}
 
@@ -106,6 +107,22 @@ module _ (measure : List ℕ → ℕ) where
   abbrev pub first_leaves : Screen → List (List ℕ) → Bool
   first_leaves s [] = false
   first_leaves s (g ∷ gs) = top_leaves s (piece_of measure s.pen g)
+
+  -- What happens to row 0 before these graphemes are printed: it goes to the lines, if lines are
+  -- kept and the first one scrolls it off, and leaves default blanks. Else nothing changes.
+  abbrev pub KeepsTop :
+      {W : Type 0} → Bool → List (List ℕ) → SurfaceValue W → List LineValue → SurfaceValue W →
+      List LineValue → Type 0
+  KeepsTop keeps gs old old_lines new new_lines =
+      let s = screen_of old in
+      let k = kept_of old in
+      ((new ≡ old) ×
+      (IsTrue keeps → (first_leaves s gs ≡ false) × (new_lines ≡ old_lines))) ⊎
+      ((first_leaves s gs ≡ true) ×
+      Becomes old (record s { rows = set s.rows 0 (replicate s.width blank) })
+      (record k { lengths = set k.lengths 0 s.width; flags = set k.flags 0 no_flags })
+      (λ j. j == 0) new ×
+      ScrollsOff old.width (first_rows s k 1) old_lines new_lines)
 
   -- the rows that the graphemes after the first one scroll off
   abbrev pub left_behind_first : Screen → Kept → List (List ℕ) → List ShownRow

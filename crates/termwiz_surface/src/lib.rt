@@ -47,5 +47,5 @@ pub use termwiz_line::line::line::Line;
 pub use termwiz_line::{cellcluster, line};
 pub use termwiz_storage::line::cellref::{CellRef, VisibleCellIter};
 pub use termwiz_storage::line::vecstorage::VecStorage;
-pub use termwiz_text::{split_letter_run, split_plain_run};
+pub use termwiz_text::{is_letter, is_narrow, split_letter_run, split_plain_run};
 pub use view::{AcceptError, Event, Outcome, Viewer};

@@ -2,14 +2,14 @@
 ghost use Rattle.std.specs.Prelude.{◌≡◌, ◌+◌, ◌-◌, ◌<◌, ◌≤◌, ◌^◌, ◌∷◌, [], IsTrue, OnErr, length};
 ghost use Rattle.std.specs.Prelude.{◌≢◌, vec_len, ℕ};
 ghost use Rattle.termwiz_surface.specs.{Adds, AddsList, AddsScrolledOff, BeginsRows, IsOk, Makes};
-ghost use Rattle.termwiz_surface.specs.{MakesList, MakesUnlogged, NumbersRows, OnOk, Preserves};
+ghost use Rattle.termwiz_surface.specs.{MakesList, NumbersRows, OnOk, Preserves};
 ghost use Rattle.termwiz_surface.specs.{Refuses, SameFrame, ScrollsOff, change_list, change_value};
-ghost use Rattle.termwiz_surface.specs.{false, is_logged, kept_of, knows, lent_value, map, measure};
+ghost use Rattle.termwiz_surface.specs.{false, is_logged, kept_of, knows, map, measure};
 ghost use Rattle.termwiz_surface.specs.{next_number, passed};
 ghost use Rattle.termwiz_surface.specs.{regions_fit, rows_scrolled_off, screen_of};
 ghost use Rattle.termwiz_surface.specs.{stream_of, true};
 
-use super::lists::{ChangeList, LentChange};
+use super::lists::ChangeList;
 use super::{Surface, SurfaceError};
 use crate::scrollback::{LineSink, NoScrollback};
 use crate::view::copied;
@@ -33,119 +33,6 @@ impl<W: Widths> Surface<W> {
         Ok(())
     }
 
-    // Applies a change and logs it.
-    fn make_one<L: LineSink>(&mut self, change: Change, lines: &mut L) -> Result<(), AllocError>
-        requires fits { regions_fit self.old.height (change_value change ∷ []) ≡ true }
-        requires numbers { next_number self.old.log + 1 < 2 ^ 64 }
-        ensures ok { OnOk result (Makes (measure W.width_of self.old.widths)
-            self.old (change_value change ∷ []) self.new) }
-        ensures scrolls { OnOk result (IsTrue L.KEEPS → ScrollsOff self.old.width
-            (rows_scrolled_off (measure W.width_of self.old.widths) (screen_of self.old)
-            (kept_of self.old) (change_value change ∷ []))
-            (L.lines_of lines.old) (L.lines_of lines.new)) }
-        ensures err { OnErr result (SameFrame self.old self.new) }
-        ensures kept { OnErr result (IsTrue L.KEEPS → BeginsRows self.old.width
-            (rows_scrolled_off (measure W.width_of self.old.widths) (screen_of self.old)
-            (kept_of self.old) (change_value change ∷ []))
-            (L.lines_of lines.old) (L.lines_of lines.new)) }
-        ensures spare { L.spare_of lines.new ≤ L.spare_of lines.old }
-    {
-        self.log.reserve(1)?;
-        self.mark = self.log.next_number() + 1;
-        self.apply(&change, lines)?;
-        self.log.push(change)?;
-        Ok(())
-    }
-
-    // Applies the changes and logs them.
-    fn make_all<L: LineSink>(
-        &mut self,
-        changes: Vec<Change>,
-        lines: &mut L,
-    ) -> Result<(), AllocError>
-        requires fits { regions_fit self.old.height (map change_value changes.items) ≡ true }
-        requires numbers { next_number self.old.log + vec_len changes < 2 ^ 64 }
-        ensures ok { OnOk result (Makes (measure W.width_of self.old.widths)
-            self.old (map change_value changes.items) self.new) }
-        ensures scrolls { OnOk result (IsTrue L.KEEPS → ScrollsOff self.old.width
-            (rows_scrolled_off (measure W.width_of self.old.widths) (screen_of self.old)
-            (kept_of self.old) (map change_value changes.items))
-            (L.lines_of lines.old) (L.lines_of lines.new)) }
-        ensures err { OnErr result (SameFrame self.old self.new) }
-        ensures kept { OnErr result (IsTrue L.KEEPS → BeginsRows self.old.width
-            (rows_scrolled_off (measure W.width_of self.old.widths) (screen_of self.old)
-            (kept_of self.old) (map change_value changes.items))
-            (L.lines_of lines.old) (L.lines_of lines.new)) }
-        ensures spare { L.spare_of lines.new ≤ L.spare_of lines.old }
-        ensures some { OnErr result (0 < vec_len changes) }
-        ensures none { vec_len changes ≡ 0 → NumbersRows self.old self.new }
-    {
-        self.log.reserve(changes.len())?;
-        self.mark = self.log.next_number() + changes.len();
-        self.apply_all(changes.as_slice(), lines)?;
-        self.log.append(changes)?;
-        Ok(())
-    }
-
-    // Applies the changes and logs clones of them.
-    fn make_lent<L: LineSink>(
-        &mut self,
-        changes: &[Change],
-        lines: &mut L,
-    ) -> Result<(), AllocError>
-        requires fits { regions_fit self.old.height (map change_value changes.now) ≡ true }
-        requires numbers { next_number self.old.log + length changes.now < 2 ^ 64 }
-        ensures ok { OnOk result (Makes (measure W.width_of self.old.widths)
-            self.old (map change_value changes.now) self.new) }
-        ensures scrolls { OnOk result (IsTrue L.KEEPS → ScrollsOff self.old.width
-            (rows_scrolled_off (measure W.width_of self.old.widths) (screen_of self.old)
-            (kept_of self.old) (map change_value changes.now))
-            (L.lines_of lines.old) (L.lines_of lines.new)) }
-        ensures err { OnErr result (SameFrame self.old self.new) }
-        ensures kept { OnErr result (IsTrue L.KEEPS → BeginsRows self.old.width
-            (rows_scrolled_off (measure W.width_of self.old.widths) (screen_of self.old)
-            (kept_of self.old) (map change_value changes.now))
-            (L.lines_of lines.old) (L.lines_of lines.new)) }
-        ensures spare { L.spare_of lines.new ≤ L.spare_of lines.old }
-        ensures some { OnErr result (0 < length changes.now) }
-        ensures none { length changes.now ≡ 0 → NumbersRows self.old self.new }
-    {
-        self.log.reserve(changes.len())?;
-        self.mark = self.log.next_number() + changes.len();
-        self.apply_all(changes, lines)?;
-        self.log.append_clones(changes)?;
-        Ok(())
-    }
-
-    // Applies the changes, and counts them.
-    fn make_unlogged<L: LineSink>(
-        &mut self,
-        changes: &[LentChange<'_>],
-        lines: &mut L,
-    ) -> Result<(), AllocError>
-        requires fits { regions_fit self.old.height (map lent_value changes.now) ≡ true }
-        requires numbers { next_number self.old.log + length changes.now < 2 ^ 64 }
-        ensures ok { OnOk result (MakesUnlogged (measure W.width_of self.old.widths)
-            self.old (map lent_value changes.now) self.new) }
-        ensures scrolls { OnOk result (IsTrue L.KEEPS → ScrollsOff self.old.width
-            (rows_scrolled_off (measure W.width_of self.old.widths) (screen_of self.old)
-            (kept_of self.old) (map lent_value changes.now))
-            (L.lines_of lines.old) (L.lines_of lines.new)) }
-        ensures err { OnErr result (SameFrame self.old self.new) }
-        ensures kept { OnErr result (IsTrue L.KEEPS → BeginsRows self.old.width
-            (rows_scrolled_off (measure W.width_of self.old.widths) (screen_of self.old)
-            (kept_of self.old) (map lent_value changes.now))
-            (L.lines_of lines.old) (L.lines_of lines.new)) }
-        ensures spare { L.spare_of lines.new ≤ L.spare_of lines.old }
-        ensures some { OnErr result (0 < length changes.now) }
-        ensures none { length changes.now ≡ 0 → NumbersRows self.old self.new }
-    {
-        self.mark = self.log.next_number() + changes.len();
-        self.apply_all_lent(changes, lines)?;
-        self.log.pass(changes.len());
-        Ok(())
-    }
-
     // Applies the changes of a list, and logs those that are to be logged.
     fn make<L: LineSink>(&mut self, list: ChangeList<'_>, lines: &mut L) -> Result<(), AllocError>
         requires fits { regions_fit self.old.height (change_list list) ≡ true }
@@ -165,12 +52,11 @@ impl<W: Widths> Surface<W> {
         ensures some { OnErr result (0 < length (change_list list.entry)) }
         ensures none { length (change_list list.entry) ≡ 0 → NumbersRows self.old self.new }
     {
-        match list {
-            ChangeList::One(change) => self.make_one(change, lines),
-            ChangeList::Owned(changes) => self.make_all(changes, lines),
-            ChangeList::Lent(changes) => self.make_lent(changes, lines),
-            ChangeList::Unlogged(changes) => self.make_unlogged(changes.0, lines),
-        }
+        list.reserve_in(&mut self.log)?;
+        self.mark = self.log.next_number() + list.len();
+        self.apply_all(&list, lines)?;
+        list.log_in(&mut self.log)?;
+        Ok(())
     }
 
     /// Applies the changes of a list in order, and logs them, or not, as the list says. The lines
@@ -261,7 +147,7 @@ impl<W: Widths> Surface<W> {
     {
         let mut changes = changes;
         own_links(self.alloc, &mut changes, &mut LinkCopies::new())?;
-        self.make_all(changes, &mut NoScrollback)
+        self.make(ChangeList::Owned(changes), &mut NoScrollback)
     }
 
     // Applies the changes as `make_linked` does. Those that set no link need no copies.
@@ -277,14 +163,14 @@ impl<W: Widths> Surface<W> {
         match changes {
             CowSlice::Borrowed(lent) => {
                 if !any_sets_link(lent) {
-                    return self.make_lent(lent, &mut NoScrollback);
+                    return self.make(ChangeList::Lent(lent), &mut NoScrollback);
                 }
                 let copies = copied(self.alloc, CowSlice::Borrowed(lent))?;
                 self.make_linked(copies)
             }
             CowSlice::Owned(list) => {
                 if !any_sets_link(&list) {
-                    return self.make_all(list, &mut NoScrollback);
+                    return self.make(ChangeList::Owned(list), &mut NoScrollback);
                 }
                 self.make_linked(list)
             }

@@ -1,5 +1,5 @@
 //! The numbers of a surface's rows, which say when each row last changed.
-ghost use Rattle.std.specs.Prelude.{◌≡◌, ◌+◌, ◌<◌, ◌≤◌, ◌^◌, ◌==◌, ◌&&◌, ◌||◌, IfOk, OnOk, OnErr};
+ghost use Rattle.std.specs.Prelude.{◌≡◌, ◌+◌, ◌<◌, ◌≤◌, ◌^◌, ◌==◌, ◌&&◌, ◌||◌, IfOk, OnOk};
 ghost use Rattle.std.specs.Prelude.{max, nat_lt, replicate, slice_index_or, vec_capacity, vec_len};
 ghost use Rattle.termwiz_surface.specs.{AreMarked, AreRenewed, IsSound, SameFrame, measure, ℕ};
 ghost use Rattle.termwiz_surface.specs.{next_number, number_at, numbers_over, restarted, with_log};

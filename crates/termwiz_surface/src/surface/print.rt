@@ -7,7 +7,7 @@ ghost use Rattle.termwiz_surface.specs.{AreWide, is_plain, list_all, one_kept, p
 ghost use Rattle.termwiz_surface.specs.{Becomes, chars, false, kept_of, measure, returned, wrapped};
 ghost use Rattle.termwiz_surface.specs.{cursor_row, down_touches, one_touches, touched_by};
 ghost use Rattle.termwiz_surface.specs.{IfOk, OnOk, down, left_behind_first, left_by, print, true};
-ghost use Rattle.termwiz_surface.specs.{BeginsRows, LeavesRows, ScrollsOff, wrap_touches};
+ghost use Rattle.termwiz_surface.specs.{BeginsRows, KeepsTop, ScrollsOff, wrap_touches};
 ghost use Rattle.std.specs.Prelude.{IsTrue};
 
 use super::Surface;
@@ -132,22 +132,6 @@ impl<W: Widths> Surface<W> {
         Ok(())
     }
 
-    // Prints a run of ASCII, and first wraps where a wrap is pending.
-    fn print_run(&mut self, run: &str) -> Result<(), AllocError>
-        requires some { 0 < length run.now }
-        requires plain { list_all is_plain run.now ≡ true }
-        requires narrow { AreNarrow (measure W.width_of self.old.widths) run.now }
-        requires unboxed { needs_box self.old.pen ≡ false }
-        requires fits { length run.now ≤ columns_left (screen_of self.old) }
-        ensures ok { OnOk result (PrintsGraphemes (measure W.width_of self.old.widths)
-            self.old (map (λ c. c ∷ []) run.now) self.new) }
-        ensures err { OnErr result (SameFrame self.old self.new) }
-    {
-        self.wrap()?;
-        self.put_run(run)?;
-        Ok(())
-    }
-
     // Prints a run of letters in the cursor's row, where each takes two columns.
     fn put_letters(&mut self, run: &str) -> Result<(), AllocError>
         requires some { 0 < length (chars run.now) }
@@ -162,22 +146,6 @@ impl<W: Widths> Surface<W> {
         paint_letters(&mut self.rows, self.x, self.y, run, &self.pen)?;
         self.numbers.mark_row(self.y, self.mark);
         self.x += 2 * letter_count(run);
-        Ok(())
-    }
-
-    // Prints a run of letters, and first wraps where a wrap is pending.
-    fn print_letters(&mut self, run: &str) -> Result<(), AllocError>
-        requires some { 0 < length (chars run.now) }
-        requires letters { AreLetters run.now }
-        requires wide { AreWide (measure W.width_of self.old.widths) (chars run.now) }
-        requires unboxed { needs_box self.old.pen ≡ false }
-        requires fits { 2 * length (chars run.now) ≤ columns_left (screen_of self.old) }
-        ensures ok { OnOk result (PrintsGraphemes (measure W.width_of self.old.widths)
-            self.old (map encode_utf8 (chars run.now)) self.new) }
-        ensures err { OnErr result (SameFrame self.old self.new) }
-    {
-        self.wrap()?;
-        self.put_letters(run)?;
         Ok(())
     }
 
@@ -196,7 +164,8 @@ impl<W: Widths> Surface<W> {
         if begins_plain(text) {
             let (run, rest) = split_narrow_run(&self.widths, text, self.run_limit());
             if !run.is_empty() {
-                self.print_run(run)?;
+                self.wrap()?;
+                self.put_run(run)?;
                 return Ok(rest);
             }
         }
@@ -207,7 +176,8 @@ impl<W: Widths> Surface<W> {
         if begins_letters(text) {
             let (run, rest) = split_wide_run(&self.widths, text, self.run_limit());
             if !run.is_empty() {
-                self.print_letters(run)?;
+                self.wrap()?;
+                self.put_letters(run)?;
                 return Ok(rest);
             }
         }
@@ -218,43 +188,27 @@ impl<W: Widths> Surface<W> {
         Ok(rest)
     }
 
-    // Prints what the text begins with, and returns the rest. Where this scrolls row 0 off, that
-    // row goes to the lines that are kept.
-    fn print_next<'a, L: LineSink>(
-        &mut self,
-        text: &'a str,
-        lines: &mut L,
-    ) -> Result<&'a str, AllocError>
+    // Moves row 0 to the lines that are kept, if printing the text begins by scrolling it off. The
+    // rows below then move up over the default blanks in its place.
+    fn keep_top<L: LineSink>(&mut self, text: &str, lines: &mut L) -> Result<(), AllocError>
         requires { 0 < length text.now }
-        ensures ok { IfOk result (λ rest. PrintsFirst (measure W.width_of self.old.widths)
-            self.old text.now rest.now self.new) }
-        ensures scrolls { IfOk result (λ rest. IsTrue L.KEEPS →
-            let f = measure W.width_of self.old.widths in
-            LeavesRows self.old.width
-            (left_by f (screen_of self.old) (kept_of self.old) (graphemes true text.now))
-            (left_by f (screen_of self.new) (kept_of self.new) (graphemes true rest.now))
-            (L.lines_of lines.old) (L.lines_of lines.new)) }
-        ensures err { OnErr result (SameFrame self.old self.new) }
-        ensures kept { OnErr result (IsTrue L.KEEPS → BeginsRows self.old.width
-            (left_by (measure W.width_of self.old.widths) (screen_of self.old)
-            (kept_of self.old) (graphemes true text.now))
-            (L.lines_of lines.old) (L.lines_of lines.new)) }
+        ensures ok { OnOk result (KeepsTop (measure W.width_of self.old.widths) L.KEEPS
+            (graphemes true text.now) self.old (L.lines_of lines.old)
+            self.new (L.lines_of lines.new)) }
+        ensures err { OnErr result (self.new ≡ self.old) }
+        ensures kept { OnErr result (L.lines_of lines.new ≡ L.lines_of lines.old) }
         ensures spare { L.spare_of lines.new ≤ L.spare_of lines.old }
     {
         // A surface has a row 0.
         let _ = &self.rows;
         if !L::KEEPS {
-            let rest = self.print_first(text)?;
-            return Ok(rest);
+            return Ok(());
         }
         if !self.first_leaves(text) {
-            let rest = self.print_first(text)?;
-            return Ok(rest);
+            return Ok(());
         }
-        // The row that is printed below is moved up over this one.
         self.take_row(0, lines)?;
-        let rest = self.print_first(text)?;
-        Ok(rest)
+        Ok(())
     }
 
     pub(super) fn print_text<L: LineSink>(
@@ -280,7 +234,8 @@ impl<W: Widths> Surface<W> {
     {
         let mut rest = text;
         'pieces: while !rest.is_empty() {
-            rest = self.print_next(rest, lines)?;
+            self.keep_top(rest, lines)?;
+            rest = self.print_first(rest)?;
         }
         Ok(())
     }

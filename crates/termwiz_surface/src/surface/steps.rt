@@ -3,19 +3,19 @@ ghost use Rattle.std.specs.Prelude.{◌≡◌, ◌+◌, ◌-◌, ◌<◌, ◌≤
 ghost use Rattle.std.specs.Prelude.{slice_set};
 ghost use Rattle.termwiz_surface.specs.{attribute_change_value, no_flags, with_line_attribute};
 ghost use Rattle.termwiz_surface.specs.{OnOk, screen_lengths, with_attribute, with_background};
-ghost use Rattle.termwiz_surface.specs.{change_value, clear_screen, eol_lengths, eos_lengths};
+ghost use Rattle.termwiz_surface.specs.{change_list, clear_screen, eol_lengths, eos_lengths};
 ghost use Rattle.termwiz_surface.specs.{region_down, region_fits, regions_fit, replay_kept};
 ghost use Rattle.termwiz_surface.specs.{Becomes, SameFrame, clear_eol, clear_eos, lengths_of};
 ghost use Rattle.termwiz_surface.specs.{kept_of, measure, region_up, screen_of, step_kept};
 ghost use Rattle.termwiz_surface.specs.{cursor_row, eol_touches, every_row, no_row, touched};
-ghost use Rattle.termwiz_surface.specs.{OnErr, blank, length, map, placed, replay, step, touches};
+ghost use Rattle.termwiz_surface.specs.{OnErr, blank, length, placed, replay, step, touches};
 ghost use Rattle.termwiz_surface.specs.{scroll_touches, true};
 ghost use Rattle.std.specs.Prelude.{IsTrue};
-ghost use Rattle.termwiz_surface.specs.{BeginsRows, ScrollsOff, left_step, lent_value};
+ghost use Rattle.termwiz_surface.specs.{BeginsRows, ScrollsOff, left_step, listed_value};
 ghost use Rattle.termwiz_surface.specs.{rows_scrolled_off};
 
 use super::Surface;
-use super::lists::LentChange;
+use super::lists::{ChangeList, ListedChange};
 use crate::scrollback::LineSink;
 use std::alloc::AllocError;
 use termwiz_cell::cell::AttributeChange;
@@ -193,30 +193,33 @@ impl<W: Widths> Surface<W> {
         Ok(())
     }
 
-    // A list and a single change each have their own copy, so that a step is no call.
-    #[inline(always)]
-    pub(super) fn apply<L: LineSink>(
+    fn apply<L: LineSink>(
         &mut self,
-        change: &Change,
+        change: ListedChange<'_>,
         lines: &mut L,
     ) -> Result<(), AllocError>
-        requires { region_fits self.old.height (change_value change.now) ≡ true }
+        requires { region_fits self.old.height (listed_value change) ≡ true }
         ensures ok { OnOk result (let f = measure W.width_of self.old.widths in
             let s = screen_of self.old in
-            Becomes self.old (step f s (change_value change.now))
-            (step_kept f s (kept_of self.old) (change_value change.now))
-            (touches f s (change_value change.now)) self.new) }
+            Becomes self.old (step f s (listed_value change.entry))
+            (step_kept f s (kept_of self.old) (listed_value change.entry))
+            (touches f s (listed_value change.entry)) self.new) }
         ensures scrolls { OnOk result (IsTrue L.KEEPS → ScrollsOff self.old.width
             (left_step (measure W.width_of self.old.widths) (screen_of self.old)
-            (kept_of self.old) (change_value change.now))
+            (kept_of self.old) (listed_value change.entry))
             (L.lines_of lines.old) (L.lines_of lines.new)) }
         ensures err { OnErr result (SameFrame self.old self.new) }
         ensures kept { OnErr result (IsTrue L.KEEPS → BeginsRows self.old.width
             (left_step (measure W.width_of self.old.widths) (screen_of self.old)
-            (kept_of self.old) (change_value change.now))
+            (kept_of self.old) (listed_value change.entry))
             (L.lines_of lines.old) (L.lines_of lines.new)) }
         ensures spare { L.spare_of lines.new ≤ L.spare_of lines.old }
     {
+        let change = match change {
+            ListedChange::Text(text) => return self.print_text(text, lines),
+            ListedChange::Title(title) => return self.set_title(title),
+            ListedChange::Whole(change) => change,
+        };
         match change {
             Change::Attribute(change) => return self.change_pen(change),
             Change::AllAttributes(attrs) => self.pen = attrs.clone()?,
@@ -246,89 +249,30 @@ impl<W: Widths> Surface<W> {
 
     pub(super) fn apply_all<L: LineSink>(
         &mut self,
-        changes: &[Change],
+        list: &ChangeList<'_>,
         lines: &mut L,
     ) -> Result<(), AllocError>
-        requires { regions_fit self.old.height (map change_value changes.now) ≡ true }
+        requires { regions_fit self.old.height (change_list list.now) ≡ true }
         ensures ok { OnOk result (let f = measure W.width_of self.old.widths in
             let s = screen_of self.old in
-            Becomes self.old (replay f s (map change_value changes.now))
-            (replay_kept f s (kept_of self.old) (map change_value changes.now))
-            (touched f s (map change_value changes.now)) self.new) }
+            Becomes self.old (replay f s (change_list list.now))
+            (replay_kept f s (kept_of self.old) (change_list list.now))
+            (touched f s (change_list list.now)) self.new) }
         ensures scrolls { OnOk result (IsTrue L.KEEPS → ScrollsOff self.old.width
             (rows_scrolled_off (measure W.width_of self.old.widths) (screen_of self.old)
-            (kept_of self.old) (map change_value changes.now))
+            (kept_of self.old) (change_list list.now))
             (L.lines_of lines.old) (L.lines_of lines.new)) }
         ensures err { OnErr result (SameFrame self.old self.new) }
         ensures kept { OnErr result (IsTrue L.KEEPS → BeginsRows self.old.width
             (rows_scrolled_off (measure W.width_of self.old.widths) (screen_of self.old)
-            (kept_of self.old) (map change_value changes.now))
+            (kept_of self.old) (change_list list.now))
             (L.lines_of lines.old) (L.lines_of lines.new)) }
         ensures spare { L.spare_of lines.new ≤ L.spare_of lines.old }
-        ensures empty { OnErr result (0 < length changes.now) }
-        ensures none { length changes.now ≡ 0 → self.new ≡ self.old }
+        ensures empty { OnErr result (0 < length (change_list list.now)) }
+        ensures none { length (change_list list.now) ≡ 0 → self.new ≡ self.old }
     {
-        for change in changes {
-            self.apply(change, lines)?;
-        }
-        Ok(())
-    }
-
-    fn apply_lent<L: LineSink>(
-        &mut self,
-        change: &LentChange<'_>,
-        lines: &mut L,
-    ) -> Result<(), AllocError>
-        requires { region_fits self.old.height (lent_value change.now) ≡ true }
-        ensures ok { OnOk result (let f = measure W.width_of self.old.widths in
-            let s = screen_of self.old in
-            Becomes self.old (step f s (lent_value change.now))
-            (step_kept f s (kept_of self.old) (lent_value change.now))
-            (touches f s (lent_value change.now)) self.new) }
-        ensures scrolls { OnOk result (IsTrue L.KEEPS → ScrollsOff self.old.width
-            (left_step (measure W.width_of self.old.widths) (screen_of self.old)
-            (kept_of self.old) (lent_value change.now))
-            (L.lines_of lines.old) (L.lines_of lines.new)) }
-        ensures err { OnErr result (SameFrame self.old self.new) }
-        ensures kept { OnErr result (IsTrue L.KEEPS → BeginsRows self.old.width
-            (left_step (measure W.width_of self.old.widths) (screen_of self.old)
-            (kept_of self.old) (lent_value change.now))
-            (L.lines_of lines.old) (L.lines_of lines.new)) }
-        ensures spare { L.spare_of lines.new ≤ L.spare_of lines.old }
-    {
-        match change {
-            LentChange::Text(text) => self.print_text(text, lines),
-            LentChange::Title(title) => self.set_title(title),
-            LentChange::Owned(change) => self.apply(change, lines),
-        }
-    }
-
-    pub(super) fn apply_all_lent<L: LineSink>(
-        &mut self,
-        changes: &[LentChange<'_>],
-        lines: &mut L,
-    ) -> Result<(), AllocError>
-        requires { regions_fit self.old.height (map lent_value changes.now) ≡ true }
-        ensures ok { OnOk result (let f = measure W.width_of self.old.widths in
-            let s = screen_of self.old in
-            Becomes self.old (replay f s (map lent_value changes.now))
-            (replay_kept f s (kept_of self.old) (map lent_value changes.now))
-            (touched f s (map lent_value changes.now)) self.new) }
-        ensures scrolls { OnOk result (IsTrue L.KEEPS → ScrollsOff self.old.width
-            (rows_scrolled_off (measure W.width_of self.old.widths) (screen_of self.old)
-            (kept_of self.old) (map lent_value changes.now))
-            (L.lines_of lines.old) (L.lines_of lines.new)) }
-        ensures err { OnErr result (SameFrame self.old self.new) }
-        ensures kept { OnErr result (IsTrue L.KEEPS → BeginsRows self.old.width
-            (rows_scrolled_off (measure W.width_of self.old.widths) (screen_of self.old)
-            (kept_of self.old) (map lent_value changes.now))
-            (L.lines_of lines.old) (L.lines_of lines.new)) }
-        ensures spare { L.spare_of lines.new ≤ L.spare_of lines.old }
-        ensures empty { OnErr result (0 < length changes.now) }
-        ensures none { length changes.now ≡ 0 → self.new ≡ self.old }
-    {
-        for change in changes {
-            self.apply_lent(change, lines)?;
+        for i in 0..list.len() {
+            self.apply(list.at(i), lines)?;
         }
         Ok(())
     }

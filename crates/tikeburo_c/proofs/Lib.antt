@@ -7,6 +7,7 @@ pub mod LinesCompressed
 pub mod LinesDrawn
 pub mod LinesWrapped
 pub mod Listed
+pub mod ListsAdded
 pub mod NoneAdded
 pub mod ReadBack
 pub mod RowNeeds

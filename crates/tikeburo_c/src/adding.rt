@@ -8,7 +8,6 @@ ghost use Rattle.tikeburo_c.specs.Results.{OnLines, OnSurface};
 ghost use Rattle.tikeburo_c.specs.Scrolling.{AddsListedRows, AddsRowsOf, OnLinesIf, WithLines};
 ghost use Rattle.tikeburo_c.specs.Scrolling.{WithLinesIf};
 
-use crate::changes::add_list;
 use crate::failure::{Failure, status};
 use crate::handle::Handle;
 use crate::kept::Kept;
@@ -33,10 +32,12 @@ fn add_listed<L: LineSink>(
 {
     if is_logged {
         let changes = listed_in(alloc, list, texts)?;
-        return add_list(surface, ChangeList::Owned(changes), lines);
+        surface.add(ChangeList::Owned(changes), lines)?;
+        return Ok(());
     }
     let changes = listed_lent_in(alloc, list, texts)?;
-    add_list(surface, ChangeList::Unlogged(LentChanges(&changes)), lines)
+    surface.add(ChangeList::Unlogged(LentChanges(&changes)), lines)?;
+    Ok(())
 }
 
 // Applies the listed changes to the surface that the handle has. It is no closure that takes the

@@ -1,11 +1,10 @@
 //! Changes of surfaces.
-ghost use Rattle.std.specs.Prelude.{IsTrue};
-ghost use Rattle.termwiz_surface.specs.ChangeLists.{change_list, is_logged};
+ghost use Rattle.std.specs.Prelude.{map, true};
+ghost use Rattle.termwiz_cell.specs.ChangeValue.{change_value};
 ghost use Rattle.tikeburo_c.specs.Changes.{AddsBytes, AddsChanges, IsOnlyList};
 ghost use Rattle.tikeburo_c.specs.Outcomes.{Reports};
 ghost use Rattle.tikeburo_c.specs.Handles.{handle_value};
 ghost use Rattle.tikeburo_c.specs.Results.{OnSurface};
-ghost use Rattle.tikeburo_c.specs.Scrolling.{AddsRows, rows_off};
 ghost use Rattle.tikeburo_c.specs.Widths.{columns_by};
 
 use crate::access::on_surface;
@@ -14,7 +13,7 @@ use crate::handle::Handle;
 use crate::widths::ChosenWidths;
 use std::alloc::Global;
 use termwiz_share::Source;
-use termwiz_surface::{Change, ChangeList, LineSink, NoScrollback};
+use termwiz_surface::Change;
 use termwiz_wire::decode_changes;
 
 // The list of changes that the bytes encode, with nothing after it.
@@ -28,20 +27,14 @@ fn only_changes(alloc: Global, widths: ChosenWidths, bytes: &[u8]) -> Result<Vec
     Ok(changes)
 }
 
-/// Applies a list of changes to a surface, which logs them or not, as the list says. The rows that
-/// they scroll off the top go to the lines that are kept.
-pub(crate) fn add_list<L: LineSink>(
+/// Applies changes to a surface, which logs them.
+pub(crate) fn add_changes(
     surface: &mut Source<ChosenWidths>,
-    list: ChangeList<'_>,
-    lines: &mut L,
+    changes: Vec<Change>,
 ) -> Result<(), Failure>
-    ensures adds { AddsChanges (is_logged list.entry) (change_list list.entry)
-        surface.old result surface.new }
-    ensures lines { IsTrue L.KEEPS → AddsRows surface.old.surface.width
-        (rows_off surface.old.surface (change_list list.entry))
-        (L.lines_of lines.old) result (L.lines_of lines.new) }
+    ensures { AddsChanges true (map change_value changes.items) surface.old result surface.new }
 {
-    surface.add(list, lines)?;
+    surface.add_changes(changes)?;
     Ok(())
 }
 
@@ -49,7 +42,7 @@ fn add_bytes(alloc: Global, surface: &mut Source<ChosenWidths>, bytes: &[u8]) ->
     ensures { AddsBytes bytes.now surface.old result surface.new }
 {
     let changes = only_changes(alloc, surface.surface().widths(), bytes)?;
-    add_list(surface, ChangeList::Owned(changes), &mut NoScrollback)
+    add_changes(surface, changes)
 }
 
 /// Applies the list of changes that these bytes encode.

@@ -7,7 +7,7 @@ ghost use Rattle.tikeburo_c.specs.LineDrawing.{DrawsFrom, DrawsLine, DrawsOne, I
 ghost use Rattle.tikeburo_c.specs.Outcomes.{Reports};
 
 use crate::access::on_surface;
-use crate::changes::add_list;
+use crate::changes::add_changes;
 use crate::failure::{Failure, status};
 use crate::handle::Handle;
 use crate::kept::Kept;
@@ -17,7 +17,7 @@ use std::alloc::{AllocError, Global};
 use termwiz_cell::change::own_links;
 use termwiz_cell::hyperlink::LinkCopies;
 use termwiz_share::Source;
-use termwiz_surface::{CellAttributes, Change, ChangeList, Line, NoScrollback, Position, Surface};
+use termwiz_surface::{CellAttributes, Change, Line, Position, Surface};
 
 // The changes, followed, where there are any, by a move and a pen that restore the cursor and the
 // pen.
@@ -71,7 +71,7 @@ fn draw_line(
         return Err(Failure::OtherWidths);
     }
     let changes = line_drawing(alloc, surface.surface(), row, line)?;
-    add_list(surface, ChangeList::Owned(changes), &mut NoScrollback)
+    add_changes(surface, changes)
 }
 
 fn draw_line_at(

@@ -42,4 +42,4 @@ returns c =
     let changes = c.in_ok-changes.changes in
     let same : c.widths.result ≡ source.surface.widths = c.widths.ensures ∙ ap (λ (s : SurfaceValue ChosenWidths). s.widths) c.surface.ensures.value in
     let only = subst (λ (w : ChosenWidths). IsOnlyList (columns_by w) bytes (Ok changes)) same c.in_ok-changes.ensures in
-    list_added bytes source changes c.add_list.result c.add_list.new.surface only c.add_list.ensures.adds
+    list_added bytes source changes c.add_changes.result c.add_changes.new.surface only c.add_changes.ensures

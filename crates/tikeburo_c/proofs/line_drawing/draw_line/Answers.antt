@@ -16,4 +16,4 @@ returns c =
     let measured = subst (λ (s : SurfaceValue ChosenWidths). AreMeasured (columns_by s.widths) cells) c.surface.ensures.value (c.measures.ensures.measured.0 is) in
     let printable = subst (λ (s : SurfaceValue ChosenWidths). ArePrintable (columns_by s.widths) cells) c.surface.ensures.value (c.measures.ensures.printable is) in
     let drawing = subst (λ (s : SurfaceValue ChosenWidths). IsDrawing s c.args.row cells (map change_value c.in_ok-changes.changes.items)) c.surface-2.ensures.value c.in_ok-changes.ensures in
-    inl (measured, inr (draws_line c.args.row cells c.args.surface.now c.add_list.new.surface c.add_list.result _ drawing printable c.add_list.ensures.adds))
+    inl (measured, inr (draws_line c.args.row cells c.args.surface.now c.add_changes.new.surface c.add_changes.result _ drawing printable c.add_changes.ensures))

@@ -82,16 +82,6 @@ impl Log {
         count <= usize::MAX - self.next_number()
     }
 
-    /// Reserves room for `count` more changes. For 0 it never fails.
-    #[inline(always)]
-    pub fn reserve(&mut self, count: usize) -> Result<(), AllocError>
-        ensures unchanged { self.new ≡ self.old }
-        ensures succeeds { count ≡ 0 → IsOk result }
-    {
-        self.stored.reserve(count)?;
-        Ok(())
-    }
-
     /// Appends a change. An error leaves the log unchanged.
     #[inline(always)]
     pub fn push(&mut self, change: Change) -> Result<(), AllocError>

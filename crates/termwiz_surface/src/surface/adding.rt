@@ -21,6 +21,7 @@ use termwiz_cell::hyperlink::LinkCopies;
 
 impl<W: Widths> Surface<W> {
     // Refuses a list of changes that can't be applied, before any is applied.
+    #[inline(always)]
     fn refuse(&self, list: &ChangeList<'_>) -> Result<(), SurfaceError>
         ensures { Refuses self.now (change_list list.now) result }
     {
@@ -34,6 +35,7 @@ impl<W: Widths> Surface<W> {
     }
 
     // Applies the changes of a list, and logs those that are to be logged.
+    #[inline(always)]
     fn make<L: LineSink>(&mut self, list: ChangeList<'_>, lines: &mut L) -> Result<(), AllocError>
         requires fits { regions_fit self.old.height (change_list list) ≡ true }
         requires numbers { next_number self.old.log + length (change_list list) < 2 ^ 64 }
@@ -52,7 +54,6 @@ impl<W: Widths> Surface<W> {
         ensures some { OnErr result (0 < length (change_list list.entry)) }
         ensures none { length (change_list list.entry) ≡ 0 → NumbersRows self.old self.new }
     {
-        list.reserve_in(&mut self.log)?;
         self.mark = self.log.next_number() + list.len();
         self.apply_all(&list, lines)?;
         list.log_in(&mut self.log)?;
@@ -73,6 +74,7 @@ impl<W: Widths> Surface<W> {
     /// - `Memory`: some changes may be applied, the last of them in part; the surface is valid and
     ///   has its old size, its log is empty, and its number is greater by one, or still 0. After
     ///   their old ones the lines may have the first of those that the changes scroll off.
+    #[inline(always)]
     pub fn add<L: LineSink>(
         &mut self,
         list: ChangeList<'_>,

@@ -93,6 +93,7 @@ fn lent_regions_fit(changes: &[LentChange<'_>], height: usize) -> bool
 
 impl ChangeList<'_> {
     /// How many changes there are.
+    #[inline(always)]
     pub fn len(&self) -> usize
         ensures { result ≡ length (change_list self.now) }
     {
@@ -105,6 +106,7 @@ impl ChangeList<'_> {
     }
 
     // Whether no scroll's region goes past the last row.
+    #[inline(always)]
     pub(super) fn regions_fit(&self, height: usize) -> bool
         ensures { result ≡ regions_fit height (change_list self.now) }
     {
@@ -131,18 +133,8 @@ impl ChangeList<'_> {
         }
     }
 
-    // Reserves what the log needs for the changes. For an empty list it never fails.
-    pub(super) fn reserve_in(&self, log: &mut Log) -> Result<(), AllocError>
-        ensures unchanged { log.new ≡ log.old }
-        ensures succeeds { length (change_list self.now) ≡ 0 → IsOk result }
-    {
-        match self {
-            ChangeList::Unlogged(_) => Ok(()),
-            _ => log.reserve(self.len()),
-        }
-    }
-
     // Logs the changes, or counts them. An empty list never fails.
+    #[inline(always)]
     pub(super) fn log_in(self, log: &mut Log) -> Result<(), AllocError>
         requires { next_number log.old + length (change_list self) < 2 ^ 64 }
         ensures ok { OnOk result (log.new ≡ log_after log.old self.entry) }

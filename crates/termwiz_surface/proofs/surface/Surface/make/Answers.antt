@@ -12,17 +12,17 @@ use Rattle.termwiz_surface.specs.Surface.{SurfaceValue, Becomes, kept_of, screen
 use Rattle.termwiz_surface.specs.Touching.{touched}
 use Rattle.termwiz_surface.proofs.ChangeLists.{after-number, makes-list, sound-after}
 use Rattle.termwiz_surface.proofs.RowNumbers.{numbers-none}
-use Rattle.termwiz_surface.proofs.ScrolledOff.{begins-leaves, begins-none, on-err}
+use Rattle.termwiz_surface.proofs.ScrolledOff.{begins-leaves, on-err}
 use Rattle.termwiz_surface.proofs.surface.Surface.make.Goals as goal
 
-pub invariant_of-self-3 : goal.invariant_of-self-3
-invariant_of-self-3 g c =
+pub invariant_of-self-2 : goal.invariant_of-self-2
+invariant_of-self-2 g c =
     let s = c.self-2.inside in
     let changes : List ChangeValue = change_list c.args.list in
     let made = c.in_ok-apply_all.ensures.ok in
     let height : s.height ≡ c.args.self.now.height = ap (λ (v : SurfaceValue _). v.height) c.self-2.view_is ∙ made.height ∙ ap (λ (v : SurfaceValue _). v.height) c.self.view_is in
     let number : next_number s.log ≡ next_number c.args.self.now.log =
-    ap (λ (v : SurfaceValue _). next_number v.log) c.self-2.view_is ∙ ap next_number made.log ∙ ap next_number c.in_ok-reserve_in.ensures.unchanged ∙ ap (λ (v : SurfaceValue _). next_number v.log) c.self.view_is in
+    ap (λ (v : SurfaceValue _). next_number v.log) c.self-2.view_is ∙ ap next_number made.log ∙ ap (λ (v : SurfaceValue _). next_number v.log) c.self.view_is in
     let fits : regions_fit s.height changes ≡ true = ap (λ (h : ℕ). regions_fit h changes) height ∙ c.requires.fits in (
       sound-after _ _ c.self-2.invariant.0 c.args.list c.log_in.new.log c.in_ok-log_in.ensures.ok fits (omega (arith, number, c.requires.numbers)),
       c.self-2.invariant.1,
@@ -36,13 +36,10 @@ returns-clause-ok g c =
     let new : SurfaceValue _ = c.apply_all.new.self in
     let changes : List ChangeValue = change_list c.args.list in
     let mark : ℕ = c.next_number.result + c.len.result in
-    let same_log : c.reserve_in.new.log ≡ old.log = c.in_ok-reserve_in.ensures.unchanged ∙ ap (λ (s : SurfaceValue _). s.log) c.self.view_is in
-    let number : mark ≡ next_number old.log + length changes = omega (arith, c.next_number.ensures, c.len.ensures, ap next_number same_log) in
-    let started : Becomes (record old { log = c.reserve_in.new.log; mark = mark }) (replay f (screen_of old) changes) (replay_kept f (screen_of old) (kept_of old) changes) (touched f (screen_of old) changes) new =
-    subst (λ (s : SurfaceValue _). let f = measure g.W.Widths.width_of s.widths in
-    Becomes (record s { log = c.reserve_in.new.log; mark = mark }) (replay f (screen_of s) changes) (replay_kept f (screen_of s) (kept_of s) changes) (touched f (screen_of s) changes) new) c.self.view_is c.in_ok-apply_all.ensures.ok in
+    let number : mark ≡ next_number old.log + length changes = omega (arith, c.next_number.ensures, c.len.ensures, ap (λ (s : SurfaceValue _). next_number s.log) c.self.view_is) in
     let becomes : Becomes (record old { mark = mark }) (replay f (screen_of old) changes) (replay_kept f (screen_of old) (kept_of old) changes) (touched f (screen_of old) changes) new =
-    subst (λ (l : LogValue). Becomes (record old { log = l; mark = mark }) (replay f (screen_of old) changes) (replay_kept f (screen_of old) (kept_of old) changes) (touched f (screen_of old) changes) new) same_log started in
+    subst (λ (s : SurfaceValue _). let f = measure g.W.Widths.width_of s.widths in
+    Becomes (record s { mark = mark }) (replay f (screen_of s) changes) (replay_kept f (screen_of s) (kept_of s) changes) (touched f (screen_of s) changes) new) c.self.view_is c.in_ok-apply_all.ensures.ok in
     let logged : c.log_in.new.log ≡ log_after old.log c.args.list = c.in_ok-log_in.ensures.ok ∙ ap (λ (s : SurfaceValue _). log_after s.log c.args.list) c.self-2.view_is ∙ ap (λ (l : LogValue). log_after l c.args.list) becomes.log in
     subst (λ (m : SurfaceValue _). MakesList f old c.args.list (with_log m c.log_in.new.log)) (sym c.self-2.view_is) (makes-list f old new c.args.list mark c.log_in.new.log number logged becomes)
 
@@ -51,14 +48,11 @@ returns-clause-none g c = λ none.
     let old : SurfaceValue _ = c.args.self.now in
     let new : SurfaceValue _ = c.apply_all.new.self in
     let mark : ℕ = c.next_number.result + c.len.result in
-    let same : new ≡ record old { log = c.reserve_in.new.log; mark = mark } =
-    c.in_ok-apply_all.ensures.none none ∙ ap (λ (s : SurfaceValue _). record s { log = c.reserve_in.new.log; mark = mark }) c.self.view_is in
+    let same : new ≡ record old { mark = mark } =
+    c.in_ok-apply_all.ensures.none none ∙ ap (λ (s : SurfaceValue _). record s { mark = mark }) c.self.view_is in
     let grows : next_number old.log ≤ next_number c.log_in.new.log =
-    omega (arith, ap next_number c.in_ok-log_in.ensures.ok, after-number c.self-2.inside.log c.args.list, ap (λ (s : SurfaceValue _). next_number s.log) (c.self-2.view_is ∙ same), ap next_number c.in_ok-reserve_in.ensures.unchanged, ap (λ (s : SurfaceValue _). next_number s.log) c.self.view_is) in
-    subst (λ (m : SurfaceValue _). NumbersRows old (with_log m c.log_in.new.log)) (sym c.self-2.view_is) (numbers-none old new mark c.reserve_in.new.log c.log_in.new.log same grows)
-
-pub returns-in_err-reserve_in-clause-kept : goal.returns-in_err-reserve_in-clause-kept
-returns-in_err-reserve_in-clause-kept g c = on-err _ _ (λ on. begins-none c.args.self.now.width _ (g.L.LineSink.lines_of c.args.lines.now))
+    omega (arith, ap next_number c.in_ok-log_in.ensures.ok, after-number c.self-2.inside.log c.args.list, ap (λ (s : SurfaceValue _). next_number s.log) (c.self-2.view_is ∙ same), ap (λ (s : SurfaceValue _). next_number s.log) c.self.view_is) in
+    subst (λ (m : SurfaceValue _). NumbersRows old (with_log m c.log_in.new.log)) (sym c.self-2.view_is) (numbers-none old new mark old.log c.log_in.new.log same grows)
 
 pub returns-in_err-apply_all-clause-kept : goal.returns-in_err-apply_all-clause-kept
 returns-in_err-apply_all-clause-kept g c =

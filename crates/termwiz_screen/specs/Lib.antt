@@ -75,7 +75,7 @@ pub use Rattle.termwiz_screen.specs.Resized.{HaveGrown, Undoes, can_undo, cuts_i
 pub use Rattle.termwiz_screen.specs.Rows.{AreFilled, ArePartly, ArePartlyReset, IsPartly, painted_in}
 pub use Rattle.termwiz_screen.specs.Runs.{AreNarrow, AreWide, IsMeasuredPiece, IsNarrowRun, IsWideRun}
 pub use Rattle.termwiz_screen.specs.Screen.{row_at}
-pub use Rattle.termwiz_screen.specs.ScreenValue.{cells_of, numberless, rows_eq, screen_eq, screen_eq-Decides, screen_value}
+pub use Rattle.termwiz_screen.specs.ScreenValue.{blank_line, cells_of, numberless, rows_eq, screen_eq, screen_eq-Decides, screen_value}
 pub use Rattle.termwiz_screen.specs.ScrollRegions.{region_down, region_reversed, region_turned, region_up}
 pub use Rattle.termwiz_screen.specs.SequenceLaws.{MovesLeadThere, TextsMoveAlike}
 pub use Rattle.termwiz_screen.specs.Sides.{AreVectors, KeepSides, KeepsSide, row_flags}

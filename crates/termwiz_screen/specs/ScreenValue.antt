@@ -1,10 +1,10 @@
 -- What contracts see of a copied screen, and its `==`.
-use Rattle.std.specs.Prelude.{◌≡◌, Bool, ◌&&◌, ◌==◌, List, map, true}
+use Rattle.std.specs.Prelude.{◌≡◌, ℕ, Bool, ◌&&◌, ◌==◌, List, map, replicate, true}
 use Rattle.std.specs.Bool.{Decides}
 use Rattle.std.specs.Cmp.Lexicographic.{pointwise, pointwise_decides}
 use Rattle.std.proofs.lemmas.Bool.Decides.{Decides-like, Decides-and, Decides-eqb}
 use Rattle.termwiz_cell.specs.Attributes.{attributes_eq, attributes_eq-Decides}
-use Rattle.termwiz_cell.specs.CellValue.{CellValue}
+use Rattle.termwiz_cell.specs.CellValue.{CellValue, blank}
 use Rattle.termwiz_cell.specs.ChangeValue.{visibility_eq, visibility_eq-Decides}
 use Rattle.termwiz_storage.specs.CellLists.{cells_eq, cells_eq-Decides}
 use Rattle.termwiz_line.specs.LineFlags.{no_flags}
@@ -31,6 +31,10 @@ screen_value s =
 -- the line of a row: a vector under the number 0, without flags
 abbrev pub numberless : List CellValue → LineValue
 numberless cs = record { cells = cs; seqno = 0; flags = no_flags; is_vector = true }
+
+-- the line of a row of w default blanks
+abbrev pub blank_line : ℕ → LineValue
+blank_line w = numberless (replicate w blank)
 
 -- `==` of rows
 abbrev pub rows_eq : List (List CellValue) → List (List CellValue) → Bool

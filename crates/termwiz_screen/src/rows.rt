@@ -2,11 +2,11 @@
 ghost use Rattle.std.specs.Prelude.{◌≡◌, ◌+◌, ◌∷◌, ◌-◌, ◌<◌, ◌≤◌, ◌++◌, [], length, slice_index_or};
 ghost use Rattle.termwiz_screen.specs.{AreFilled, AreLetters, ArePartly, ArePartlyReset, IsPartly};
 ghost use Rattle.termwiz_screen.specs.{AreVectors, IfOk, IsPruned, KeepSides, KeepsSide, OnErr, ℕ};
-ghost use Rattle.termwiz_screen.specs.{OnOk, blank, cells_of, chars, deque_capacity, deque_len};
+ghost use Rattle.termwiz_screen.specs.{OnOk, blank_line, cells_of, chars, deque_capacity, deque_len};
 ghost use Rattle.termwiz_screen.specs.{drop, false, fill, is_plain, list_all, map, needs_box, take};
 ghost use Rattle.termwiz_screen.specs.{no_flags, numberless, painted_in, region_down, region_up};
 ghost use Rattle.termwiz_screen.specs.{region_reversed, region_turned, replicate, resized, row_at};
-ghost use Rattle.termwiz_screen.specs.{row_chars, row_flags, screen_chars, scrolled, set_letters};
+ghost use Rattle.termwiz_screen.specs.{row_chars, row_flags, screen_chars, set_letters};
 ghost use Rattle.termwiz_screen.specs.{set_run, slice_set, string_bytes, true, with_line_attribute};
 
 mod resizing;
@@ -76,7 +76,7 @@ fn add_blank_rows(
 ) -> Result<(), AllocError>
     requires { deque_len rows.old + count ≤ deque_capacity rows.old }
     ensures { OnOk result (
-        rows.new.items ≡ rows.old.items ++ replicate count (numberless (replicate width blank))) }
+        rows.new.items ≡ rows.old.items ++ replicate count (blank_line width)) }
 {
     for _row in 0..count {
         rows.push_back_reserved(Line::with_width(alloc, width, SEQ_ZERO)?);
@@ -86,10 +86,7 @@ fn add_blank_rows(
 
 /// Rows of default blanks.
 pub fn blank_rows(alloc: Global, width: usize, height: usize) -> Result<VecDeque<Line>, AllocError>
-    ensures cells { IfOk result (λ rows.
-        cells_of rows.items ≡ replicate height (replicate width blank)) }
-    ensures flags { IfOk result (λ rows. row_flags rows.items ≡ replicate height no_flags) }
-    ensures vectors { IfOk result (λ rows. AreVectors rows.items) }
+    ensures { IfOk result (λ rows. rows.items ≡ replicate height (blank_line width)) }
 {
     let mut rows = VecDeque::with_capacity(alloc, height)?;
     add_blank_rows(alloc, &mut rows, width, height)?;
@@ -163,13 +160,10 @@ pub fn paint_letters(
 
 /// Removes row 0, and appends a row of default blanks, which reuses its memory.
 pub fn scroll_rows(rows: &mut VecDeque<Line>, width: usize) -> Result<(), AllocError>
-    requires { 0 < deque_len rows.old }
-    ensures ok { OnOk result (cells_of rows.new.items ≡ scrolled width (cells_of rows.old.items)) }
-    ensures err { OnErr result (cells_of rows.new.items ≡ cells_of rows.old.items) }
-    ensures flags { OnOk result (
-        row_flags rows.new.items ≡ drop 1 (row_flags rows.old.items) ++ no_flags ∷ []) }
-    ensures err_flags { OnErr result (row_flags rows.new.items ≡ row_flags rows.old.items) }
-    ensures vectors { AreVectors rows.old.items → AreVectors rows.new.items }
+    requires some { 0 < deque_len rows.old }
+    requires vectors { AreVectors rows.old.items }
+    ensures ok { OnOk result (rows.new.items ≡ drop 1 rows.old.items ++ blank_line width ∷ []) }
+    ensures err { OnErr result (rows.new.items ≡ rows.old.items) }
 {
     rows[0].blank_out(width, SEQ_ZERO)?;
     if let Some(row) = rows.pop_front() {
@@ -186,18 +180,14 @@ fn blank_some(
     first: usize,
     count: usize,
 ) -> Result<(), AllocError>
-    requires { first + count ≤ deque_len rows.old }
+    requires inside { first + count ≤ deque_len rows.old }
+    requires vectors { AreVectors rows.old.items }
     ensures ok { OnOk result (
         rows.new.items ≡ take first rows.old.items
-        ++ (replicate count (numberless (replicate width blank))
-        ++ drop (first + count) rows.old.items)) }
+        ++ (replicate count (blank_line width) ++ drop (first + count) rows.old.items)) }
     ensures err { OnErr result (
-        ArePartlyReset (replicate width blank) (cells_of rows.old.items)
-        (cells_of rows.new.items)) }
-    ensures err_flags { OnErr result (
-        ArePartlyReset no_flags (row_flags rows.old.items) (row_flags rows.new.items)) }
+        ArePartlyReset (blank_line width) rows.old.items rows.new.items) }
     ensures len { deque_len rows.new ≡ deque_len rows.old }
-    ensures vectors { AreVectors rows.old.items → AreVectors rows.new.items }
 {
     for i in first..first + count {
         rows[i].blank_out(width, SEQ_ZERO)?;
@@ -250,18 +240,12 @@ pub fn scroll_region_up(
     size: usize,
     count: usize,
 ) -> Result<(), AllocError>
-    requires { first + size ≤ deque_len rows.old }
+    requires inside { first + size ≤ deque_len rows.old }
+    requires vectors { AreVectors rows.old.items }
     ensures ok { OnOk result (
-        cells_of rows.new.items
-        ≡ region_up (replicate width blank) (cells_of rows.old.items) first size count) }
-    ensures flags { OnOk result (
-        row_flags rows.new.items ≡ region_up no_flags (row_flags rows.old.items) first size count) }
+        rows.new.items ≡ region_up (blank_line width) rows.old.items first size count) }
     ensures err { OnErr result (
-        ArePartlyReset (replicate width blank) (cells_of rows.old.items)
-        (cells_of rows.new.items)) }
-    ensures err_flags { OnErr result (
-        ArePartlyReset no_flags (row_flags rows.old.items) (row_flags rows.new.items)) }
-    ensures vectors { AreVectors rows.old.items → AreVectors rows.new.items }
+        ArePartlyReset (blank_line width) rows.old.items rows.new.items) }
 {
     let gone = count.min(size);
     blank_some(rows, width, first, gone)?;
@@ -278,19 +262,12 @@ pub fn scroll_region_down(
     size: usize,
     count: usize,
 ) -> Result<(), AllocError>
-    requires { first + size ≤ deque_len rows.old }
+    requires inside { first + size ≤ deque_len rows.old }
+    requires vectors { AreVectors rows.old.items }
     ensures ok { OnOk result (
-        cells_of rows.new.items
-        ≡ region_down (replicate width blank) (cells_of rows.old.items) first size count) }
-    ensures flags { OnOk result (
-        row_flags rows.new.items
-        ≡ region_down no_flags (row_flags rows.old.items) first size count) }
+        rows.new.items ≡ region_down (blank_line width) rows.old.items first size count) }
     ensures err { OnErr result (
-        ArePartlyReset (replicate width blank) (cells_of rows.old.items)
-        (cells_of rows.new.items)) }
-    ensures err_flags { OnErr result (
-        ArePartlyReset no_flags (row_flags rows.old.items) (row_flags rows.new.items)) }
-    ensures vectors { AreVectors rows.old.items → AreVectors rows.new.items }
+        ArePartlyReset (blank_line width) rows.old.items rows.new.items) }
 {
     let gone = count.min(size);
     let kept = size - gone;

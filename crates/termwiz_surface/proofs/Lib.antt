@@ -1,4 +1,5 @@
 mod Drawn
+mod Painted
 mod Touching
 pub mod RowNumbers
 mod Printing

@@ -1,7 +1,7 @@
 //! Lines outside of a screen.
-ghost use Rattle.std.specs.Prelude.{◌≡◌, ◌+◌, ◌-◌, ◌≤◌, IfOk, [], drop, length, max, replicate};
-ghost use Rattle.termwiz_screen.specs.{numberless};
-ghost use Rattle.termwiz_surface.specs.{blank, spare_lines};
+ghost use Rattle.std.specs.Prelude.{◌≡◌, ◌+◌, ◌-◌, ◌≤◌, IfOk, [], drop, length, max};
+ghost use Rattle.termwiz_screen.specs.{blank_line};
+ghost use Rattle.termwiz_surface.specs.{spare_lines};
 
 use std::alloc::{AllocError, Global};
 use std::collections::VecDeque;
@@ -14,10 +14,9 @@ use termwiz_line::line::line::Line;
 /// `NoScrollback`, nowhere.
 pub trait LineSink {
     ghost use Rattle.std.specs.Prelude.{◌≡◌, ◌++◌, ◌∷◌, ◌≤◌, [], Bool, IsTrue, List, OnErr, OnOk};
-    ghost use Rattle.std.specs.Prelude.{ℕ, replicate};
-    ghost use Rattle.termwiz_cell.specs.CellValue.{blank};
+    ghost use Rattle.std.specs.Prelude.{ℕ};
     ghost use Rattle.termwiz_line.specs.LineValue.{LineValue};
-    ghost use Rattle.termwiz_screen.specs.ScreenValue.{numberless};
+    ghost use Rattle.termwiz_screen.specs.ScreenValue.{blank_line};
 
     ghost KEEPS: { Bool };
 
@@ -32,7 +31,7 @@ pub trait LineSink {
     /// default blanks in its place. The line shares no memory with the surface that it comes from.
     /// After an error the row and the lines are as before.
     fn take(&mut self, alloc: Global, width: usize, row: &mut Line) -> Result<(), AllocError>
-        ensures row { OnOk result (IsTrue KEEPS → row.new ≡ numberless (replicate width blank)) }
+        ensures row { OnOk result (IsTrue KEEPS → row.new ≡ blank_line width) }
         ensures taken { OnOk result (IsTrue KEEPS →
             lines_of self.new ≡ lines_of self.old ++ row.old ∷ []) }
         ensures err { OnErr result (row.new ≡ row.old) }
@@ -170,7 +169,7 @@ impl Scrollback {
 
     // A row of default blanks, in the memory of a spare line where there is one.
     fn blank_row(&mut self, alloc: Global, width: usize) -> Result<Line, AllocError>
-        ensures made { IfOk result (λ line. line ≡ numberless (replicate width blank)) }
+        ensures made { IfOk result (λ line. line ≡ blank_line width) }
         ensures kept { self.new.lines ≡ self.old.lines }
         ensures spare { spare_lines self.new ≤ spare_lines self.old }
     {

@@ -16,7 +16,7 @@ use Rattle.termwiz_line.proofs.RowOf.{length-row_of, row_of_at, row_of_row}
 use Rattle.termwiz_line.proofs.StoredRows.{row_stored, row_ext, row_alike, row_blank}
 use Rattle.termwiz_screen.specs.Resized.{in_width, resized_flags, resized_rows, resized_stored}
 use Rattle.termwiz_screen.specs.Screen.{row_at}
-use Rattle.termwiz_screen.specs.ScreenValue.{cells_of, numberless}
+use Rattle.termwiz_screen.specs.ScreenValue.{blank_line, cells_of}
 use Rattle.termwiz_screen.specs.Sides.{row_flags, AreVectors}
 use Rattle.termwiz_screen.specs.Measured.{IsMeasured, IsStored}
 use Rattle.termwiz_screen.proofs.Regions.{map-replicate}
@@ -27,20 +27,20 @@ map-map g k [] = refl
 map-map g k (x ∷ xs) = ap (λ t. g (k x) ∷ t) (map-map g k xs)
 
 -- default rows come after the rows that were kept
-module _ (w h count : ℕ) (xs ys new : List LineValue) (c : count ≡ h - length ys) (is : new ≡ ys ++ replicate count (numberless (replicate w blank))) where
+module _ (w h count : ℕ) (xs ys new : List LineValue) (c : count ≡ h - length ys) (is : new ≡ ys ++ replicate count (blank_line w)) where
   pub added-cells : cells_of ys ≡ map (resized w) (take h (cells_of xs)) → cells_of new ≡ resized_stored w h (cells_of xs)
   added-cells e =
       let long : length ys ≡ min h (length (cells_of xs)) = sym (length-map ys (λ (l : LineValue). l.cells)) ∙ ap length e ∙ length-map (take h (cells_of xs)) (resized w) ∙ length-take h (cells_of xs) in
       let left : count ≡ h - length (cells_of xs) = omega arith in
-      ap cells_of is ∙ map-append (λ (l : LineValue). l.cells) ys (replicate count (numberless (replicate w blank)))
-      ∙ ap₂ (λ u v. u ++ v) e (map-replicate (λ (l : LineValue). l.cells) count (numberless (replicate w blank)) ∙ ap (λ k. replicate k (replicate w blank)) left)
+      ap cells_of is ∙ map-append (λ (l : LineValue). l.cells) ys (replicate count (blank_line w))
+      ∙ ap₂ (λ u v. u ++ v) e (map-replicate (λ (l : LineValue). l.cells) count (blank_line w) ∙ ap (λ k. replicate k (replicate w blank)) left)
 
   pub added-flags : row_flags ys ≡ take h (row_flags xs) → row_flags new ≡ resized_flags h (row_flags xs)
   added-flags e =
       let long : length ys ≡ min h (length (row_flags xs)) = sym (length-map ys (λ (l : LineValue). l.flags)) ∙ ap length e ∙ length-take h (row_flags xs) in
       let left : count ≡ h - length (row_flags xs) = omega arith in
-      ap row_flags is ∙ map-append (λ (l : LineValue). l.flags) ys (replicate count (numberless (replicate w blank)))
-      ∙ ap₂ (λ u v. u ++ v) e (map-replicate (λ (l : LineValue). l.flags) count (numberless (replicate w blank)) ∙ ap (λ k. replicate k no_flags) left)
+      ap row_flags is ∙ map-append (λ (l : LineValue). l.flags) ys (replicate count (blank_line w))
+      ∙ ap₂ (λ u v. u ++ v) e (map-replicate (λ (l : LineValue). l.flags) count (blank_line w) ∙ ap (λ k. replicate k no_flags) left)
 
 -- each of the first rows is cut in place or gives way to its copy
 module _ (w h : ℕ) (xs : List LineValue) where
@@ -51,15 +51,15 @@ module _ (w h : ℕ) (xs : List LineValue) where
   flags-in_width = map-map (λ (l : LineValue). l.flags) (in_width w) (take h xs) ∙ sym (take-map (λ (l : LineValue). l.flags) h xs)
 
   -- with default rows after them all are vectors
-  pub vectors-in_width : (count : ℕ) → AreVectors (map (in_width w) (take h xs) ++ replicate count (numberless (replicate w blank)))
+  pub vectors-in_width : (count : ℕ) → AreVectors (map (in_width w) (take h xs) ++ replicate count (blank_line w))
   vectors-in_width count = record {
-    each = All-append (λ (l : LineValue). l.is_vector ≡ true) (map (in_width w) (take h xs)) (replicate count (numberless (replicate w blank)))
-        (All-map (λ (l : LineValue). l.is_vector ≡ true) (in_width w) (take h xs) (All-from_get_or (λ (l : LineValue). true ≡ true) (take h xs) (numberless []) (λ i l. refl)))
-        (All-replicate (λ (l : LineValue). l.is_vector ≡ true) count (numberless (replicate w blank)) refl);
+    each = All-append (λ (l : LineValue). l.is_vector ≡ true) (map (in_width w) (take h xs)) (replicate count (blank_line w))
+        (All-map (λ (l : LineValue). l.is_vector ≡ true) (in_width w) (take h xs) (All-from_get_or (λ (l : LineValue). true ≡ true) (take h xs) (blank_line 0) (λ i l. refl)))
+        (All-replicate (λ (l : LineValue). l.is_vector ≡ true) count (blank_line w) refl);
   }
 
 -- the rows that are kept, in the width, and default ones
-module _ (w h count : ℕ) (old new : List LineValue) (c : count ≡ h - length old) (is : new ≡ map (in_width w) (take h old) ++ replicate count (numberless (replicate w blank))) where
+module _ (w h count : ℕ) (old new : List LineValue) (c : count ≡ h - length old) (is : new ≡ map (in_width w) (take h old) ++ replicate count (blank_line w)) where
   missing : count ≡ h - length (map (in_width w) (take h old))
   missing = omega (arith, length-map (take h old) (in_width w), length-take h old)
 
@@ -73,11 +73,11 @@ module _ (w h count : ℕ) (old new : List LineValue) (c : count ≡ h - length 
   fitted-vectors = rw is (vectors-in_width w h old count)
 
 -- all rows are kept, in the width, and rows come below them
-pub fitted-longer : (w h count : ℕ) (old new : List LineValue) → length old ≤ h → new ≡ map (in_width w) old ++ replicate count (numberless (replicate w blank)) → new ≡ map (in_width w) (take h old) ++ replicate count (numberless (replicate w blank))
+pub fitted-longer : (w h count : ℕ) (old new : List LineValue) → length old ≤ h → new ≡ map (in_width w) old ++ replicate count (blank_line w) → new ≡ map (in_width w) (take h old) ++ replicate count (blank_line w)
 fitted-longer w h count old new short is = rw (take_all h old short) is
 
 -- the first rows are in the width, and the others go
-pub fitted-shorter : (w h : ℕ) (old rows new : List LineValue) → h ≤ length old → rows ≡ map (in_width w) (take h old) ++ drop h old → new ≡ take h rows → new ≡ map (in_width w) (take h old) ++ replicate 0 (numberless (replicate w blank))
+pub fitted-shorter : (w h : ℕ) (old rows new : List LineValue) → h ≤ length old → rows ≡ map (in_width w) (take h old) ++ drop h old → new ≡ take h rows → new ≡ map (in_width w) (take h old) ++ replicate 0 (blank_line w)
 fitted-shorter w h old rows new long fitted cut =
     let many : length (map (in_width w) (take h old)) ≡ h = length-map (take h old) (in_width w) ∙ length-take h old ∙ omega arith in
     cut ∙ ap (take h) fitted ∙ take-append-le h (map (in_width w) (take h old)) (drop h old) (omega (arith, many))

@@ -1,21 +1,22 @@
 -- Rows of which a region is scrolled.
-use Rattle.std.proofs.Common.{◌≡◌, ℕ, ◌+◌, ◌-◌, ◌<◌, ◌≤◌, inl, inr, true, List, [], ◌++◌, length, take, drop, get_or, set, map, replicate, refl, sym, ◌∙◌, ap, subst, arith}
+use Rattle.std.proofs.Common.{◌≡◌, ℕ, ◌+◌, ◌-◌, ◌<◌, ◌≤◌, inl, inr, true, List, [], ◌∷◌, ◌++◌, length, take, drop, get_or, set, map, replicate, refl, sym, ◌∙◌, ap, subst, arith}
 use Rattle.std.specs.List.{All}
 use Rattle.std.proofs.lemmas.Bool.{cases_lt}
-use Rattle.std.proofs.lemmas.List.{get_or_append_left, get_or-append_right, get_or-take, get_or-drop, get_or-replicate, length-append, length-take, length-drop, length-replicate, map-append, drop-map, take-map}
-use Rattle.std.proofs.lemmas.List.Elements.{All-set, All-get_or, All-from_get_or}
+use Rattle.std.proofs.lemmas.List.{get_or_append_left, get_or-append_right, get_or-take, get_or-drop, get_or-replicate, length-append, length-take, length-drop, length-replicate, length-map, map-append, drop-map, get_or-map}
+use Rattle.std.proofs.lemmas.List.Elements.{All-append, All-drop, All-replicate, All-set, All-get_or, All-from_get_or}
 use Rattle.termwiz_cell.specs.CellValue.{CellValue, blank}
 use Rattle.termwiz_line.specs.LineFlags.{no_flags}
 use Rattle.termwiz_line.specs.LineValue.{LineValue}
 use Rattle.termwiz_line.specs.Row.{row_of}
 use Rattle.termwiz_line.proofs.StoredRows.{row_blank}
+use Rattle.termwiz_screen.specs.Print.{scrolled}
 use Rattle.termwiz_screen.specs.ScrollRegions.{region_up, region_down}
 use Rattle.termwiz_screen.specs.Rows.{ArePartlyReset}
 use Rattle.termwiz_screen.specs.Screen.{row_at}
-use Rattle.termwiz_screen.specs.ScreenValue.{cells_of, numberless}
+use Rattle.termwiz_screen.specs.ScreenValue.{blank_line, cells_of}
 use Rattle.termwiz_screen.specs.Sides.{row_flags, AreVectors}
 use Rattle.termwiz_screen.specs.Measured.{IsStored}
-use Rattle.termwiz_screen.proofs.Regions.{map-replicate, map-region_up, map-region_down, All-region_up, All-region_down, length-region_up, length-region_down}
+use Rattle.termwiz_screen.proofs.Regions.{map-region_up, map-region_down, All-region_up, All-region_down, length-region_up, length-region_down}
 use Rattle.termwiz_screen.proofs.Stored.{IsLawful, IsStored-blank}
 
 -- some elements in turn are default ones
@@ -42,32 +43,64 @@ module _ {X : Type 0} (d : X) (xs ys : List X) (a n i : ℕ) (e : a + n ≡ i) (
     ];
   }
 
--- what a map makes of them
-pub map-reset : {X Y : Type 0} (f : X → Y) (d : X) (xs ys : List X) (a n i : ℕ) → ys ≡ take a xs ++ (replicate n d ++ drop i xs) → map f ys ≡ take a (map f xs) ++ (replicate n (f d) ++ drop i (map f xs))
-map-reset f d xs ys a n i is = ap (map f) is ∙ simp (map-append, map-replicate, drop-map, take-map)
+-- what a map makes of a list of which some elements are this one
+pub partly-map : {X Y : Type 0} (f : X → Y) (d : X) (xs ys : List X) → ArePartlyReset d xs ys → ArePartlyReset (f d) (map f xs) (map f ys)
+partly-map f d xs ys p = record {
+  same_count = length-map ys f ∙ p.same_count ∙ sym (length-map xs f);
+  each = λ j z l.
+      let old : j < length xs = omega (arith, length-map xs f) in
+      let new : j < length ys = omega (arith, old, p.same_count) in
+      elim (p.each j d old) [
+        | inl e ↦ inl (get_or-map f ys j d z new ∙ ap f e ∙ sym (get_or-map f xs j d z old))
+        | inr e ↦ inr (get_or-map f ys j d z new ∙ ap f e)
+      ];
+}
 
 pub vectors-set : (ls : List LineValue) (i : ℕ) (m : LineValue) → m.is_vector ≡ true → AreVectors ls → AreVectors (set ls i m)
 vectors-set ls i m e v = record { each = All-set (λ (x : LineValue). x.is_vector ≡ true) ls i m e v.each }
 
+pub vectors-partly : (w : ℕ) (xs ys : List LineValue) → ArePartlyReset (blank_line w) xs ys → AreVectors xs → AreVectors ys
+vectors-partly w xs ys p v = record {
+  each = All-from_get_or (λ (x : LineValue). x.is_vector ≡ true) ys (blank_line w) (λ j l.
+      let old : j < length xs = omega (arith, p.same_count) in
+      elim (p.each j (blank_line w) old) [
+        | inl e ↦ subst (λ (x : LineValue). x.is_vector ≡ true) (sym e) (All-get_or (λ (x : LineValue). x.is_vector ≡ true) xs j (blank_line w) old v.each)
+        | inr e ↦ subst (λ (x : LineValue). x.is_vector ≡ true) (sym e) refl
+      ]);
+}
+
+-- lines of which the first one was scrolled off
+module _ (w : ℕ) (xs ys : List LineValue) (is : ys ≡ drop 1 xs ++ blank_line w ∷ []) where
+  pub cells-scrolled : cells_of ys ≡ scrolled w (cells_of xs)
+  cells-scrolled = ap cells_of is ∙ simp (map-append, drop-map)
+
+  pub flags-scrolled : row_flags ys ≡ drop 1 (row_flags xs) ++ no_flags ∷ []
+  flags-scrolled = ap row_flags is ∙ simp (map-append, drop-map)
+
+  pub vectors-scrolled : AreVectors xs → AreVectors ys
+  vectors-scrolled v = rw is (record {
+    each = All-append (λ (x : LineValue). x.is_vector ≡ true) (drop 1 xs) (blank_line w ∷ []) (All-drop (λ (x : LineValue). x.is_vector ≡ true) 1 xs v.each) (All-replicate (λ (x : LineValue). x.is_vector ≡ true) 1 (blank_line w) refl);
+  })
+
 -- lines of which a region was scrolled
 module _ (w : ℕ) (xs ys : List LineValue) (a n k : ℕ) where
-  pub cells-up : ys ≡ region_up (numberless (replicate w blank)) xs a n k → cells_of ys ≡ region_up (replicate w blank) (cells_of xs) a n k
-  cells-up e = ap cells_of e ∙ map-region_up (λ (l : LineValue). l.cells) (numberless (replicate w blank)) xs a n k
+  pub cells-up : ys ≡ region_up (blank_line w) xs a n k → cells_of ys ≡ region_up (replicate w blank) (cells_of xs) a n k
+  cells-up e = ap cells_of e ∙ map-region_up (λ (l : LineValue). l.cells) (blank_line w) xs a n k
 
-  pub flags-up : ys ≡ region_up (numberless (replicate w blank)) xs a n k → row_flags ys ≡ region_up no_flags (row_flags xs) a n k
-  flags-up e = ap row_flags e ∙ map-region_up (λ (l : LineValue). l.flags) (numberless (replicate w blank)) xs a n k
+  pub flags-up : ys ≡ region_up (blank_line w) xs a n k → row_flags ys ≡ region_up no_flags (row_flags xs) a n k
+  flags-up e = ap row_flags e ∙ map-region_up (λ (l : LineValue). l.flags) (blank_line w) xs a n k
 
-  pub cells-down : ys ≡ region_down (numberless (replicate w blank)) xs a n k → cells_of ys ≡ region_down (replicate w blank) (cells_of xs) a n k
-  cells-down e = ap cells_of e ∙ map-region_down (λ (l : LineValue). l.cells) (numberless (replicate w blank)) xs a n k
+  pub cells-down : ys ≡ region_down (blank_line w) xs a n k → cells_of ys ≡ region_down (replicate w blank) (cells_of xs) a n k
+  cells-down e = ap cells_of e ∙ map-region_down (λ (l : LineValue). l.cells) (blank_line w) xs a n k
 
-  pub flags-down : ys ≡ region_down (numberless (replicate w blank)) xs a n k → row_flags ys ≡ region_down no_flags (row_flags xs) a n k
-  flags-down e = ap row_flags e ∙ map-region_down (λ (l : LineValue). l.flags) (numberless (replicate w blank)) xs a n k
+  pub flags-down : ys ≡ region_down (blank_line w) xs a n k → row_flags ys ≡ region_down no_flags (row_flags xs) a n k
+  flags-down e = ap row_flags e ∙ map-region_down (λ (l : LineValue). l.flags) (blank_line w) xs a n k
 
-  pub vectors-up : ys ≡ region_up (numberless (replicate w blank)) xs a n k → AreVectors xs → AreVectors ys
-  vectors-up e v = rw e (record { each = All-region_up (λ (l : LineValue). l.is_vector ≡ true) (numberless (replicate w blank)) xs a n k refl v.each })
+  pub vectors-up : ys ≡ region_up (blank_line w) xs a n k → AreVectors xs → AreVectors ys
+  vectors-up e v = rw e (record { each = All-region_up (λ (l : LineValue). l.is_vector ≡ true) (blank_line w) xs a n k refl v.each })
 
-  pub vectors-down : ys ≡ region_down (numberless (replicate w blank)) xs a n k → AreVectors xs → AreVectors ys
-  vectors-down e v = rw e (record { each = All-region_down (λ (l : LineValue). l.is_vector ≡ true) (numberless (replicate w blank)) xs a n k refl v.each })
+  pub vectors-down : ys ≡ region_down (blank_line w) xs a n k → AreVectors xs → AreVectors ys
+  vectors-down e v = rw e (record { each = All-region_down (λ (l : LineValue). l.is_vector ≡ true) (blank_line w) xs a n k refl v.each })
 
 -- rows that have their form keep it
 module _ (f : List ℕ → ℕ) (w h : ℕ) (rows : List (List CellValue)) (lawful : IsLawful f) (some : 0 < w) (full : length rows ≡ h) (stored_so : (j : ℕ) → j < h → IsStored f w (row_at rows j)) where

@@ -1,8 +1,8 @@
 //! Resizing rows.
 ghost use Rattle.std.specs.Prelude.{◌≡◌, ◌<◌, ◌≤◌, ◌++◌, [], IfSome, vec_capacity, vec_len};
 ghost use Rattle.termwiz_screen.specs.{AreVectors, HaveGrown, IfOk, OnErr, OnOk, Undoes, can_undo};
-ghost use Rattle.termwiz_screen.specs.{blank, cells_of, cuts_in_place, drop, in_width};
-ghost use Rattle.termwiz_screen.specs.{is_vector_of, length, list_all, map, numberless, replicate};
+ghost use Rattle.termwiz_screen.specs.{blank_line, cells_of, cuts_in_place, drop, in_width};
+ghost use Rattle.termwiz_screen.specs.{is_vector_of, length, list_all, map, replicate};
 ghost use Rattle.termwiz_screen.specs.{resized_flags, resized_stored, row_flags, take, true};
 ghost use Rattle.termwiz_screen.specs.{undone, widened_line};
 
@@ -218,7 +218,7 @@ fn add_rows(
     ensures ok { OnOk result (
         rows.new.items
         ≡ map (in_width width) rows.old.items
-        ++ replicate missing (numberless (replicate width blank))) }
+        ++ replicate missing (blank_line width)) }
     ensures err { OnErr result (rows.new.items ≡ rows.old.items) }
 {
     let mut below = VecDeque::with_capacity(alloc, missing)?;

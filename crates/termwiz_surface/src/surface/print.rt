@@ -199,8 +199,6 @@ impl<W: Widths> Surface<W> {
         ensures kept { OnErr result (L.lines_of lines.new ≡ L.lines_of lines.old) }
         ensures spare { L.spare_of lines.new ≤ L.spare_of lines.old }
     {
-        // A surface has a row 0.
-        let _ = &self.rows;
         if !L::KEEPS {
             return Ok(());
         }

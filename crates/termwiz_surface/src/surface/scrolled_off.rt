@@ -87,8 +87,9 @@ impl<W: Widths> Surface<W> {
     // Whether the text's first grapheme scrolls row 0 off.
     pub(super) fn first_leaves(&self, text: &str) -> bool
         requires { 0 < length text.now }
-        ensures { result ≡ first_leaves (measure W.width_of self.now.widths) (screen_of self.now)
-            (graphemes true text.now) }
+        ensures leaves { result ≡ first_leaves (measure W.width_of self.now.widths)
+            (screen_of self.now) (graphemes true text.now) }
+        ensures some_row { 0 < self.now.height }
     {
         if self.y + 1 < self.height {
             return false;

@@ -1,10 +1,11 @@
-use Rattle.std.proofs.Common.{◌∙◌, arith, refl}
-use Rattle.std.specs.Prelude.{None, string_bytes}
+use Rattle.std.proofs.Common.{◌∙◌, arith}
+use Rattle.std.specs.Prelude.{None}
 use Rattle.termwiz_cell.specs.Attributes.{with_background}
 use Rattle.termwiz_cell.specs.Measure.{measure}
 use Rattle.termwiz_screen.specs.ScreenValue.{cells_of}
 use Rattle.termwiz_surface.proofs.Changed.{IsSound-partly, IsSound-screen, rows-screen, lengths-screen}
 use Rattle.termwiz_surface.proofs.Drawn.{any_numbers}
+use Rattle.termwiz_surface.proofs.Painted.{becomes-painted}
 use Rattle.termwiz_surface.proofs.RowNumbers.{marks-all}
 use Rattle.termwiz_surface.proofs.surface.Surface.clear_screen.Goals as goal
 
@@ -28,20 +29,8 @@ pub returns-clause-ok : goal.returns-clause-ok
 returns-clause-ok g c =
     let f = measure g.W.Widths.width_of c.self.inside.widths in
     let done = rw (c.in_ok-cleared.ensures, c.in_ok-pen.ensures) at c.in_ok-fill_rows.ensures.ok in
-    rw (← c.self.view_is, c.in_ok-pen.ensures) (record {
-      widths = refl;
-      width = refl;
-      height = refl;
-      full = refl;
-      log = refl;
-      mark = refl;
-      rows = marks-all _ _ _ (omega (arith, c.self.invariant.2)) c.mark_all.ensures.marked;
-      screen_is = rw (rows-screen f _ (record { space = g.met.W.Widths.space_has_one c.self.inside.widths None }) c.self.invariant.0 (with_background c.args.color.now) (cells_of c.fill_rows.new.rows.items) done) refl;
-      kept_is = λ i. record {
-        lengths = lengths-screen f _ (record { space = g.met.W.Widths.space_has_one c.self.inside.widths None }) c.self.invariant.0 (with_background c.args.color.now) (cells_of c.fill_rows.new.rows.items) done i;
-        flags = c.in_ok-fill_rows.ensures.sides.flags i;
-        title = string_bytes c.self.inside.title;
-        shape = c.self.inside.shape;
-        color = c.self.inside.color;
-      };
-    })
+    rw (← c.self.view_is, c.in_ok-pen.ensures) (becomes-painted
+    (marks-all _ _ _ (omega (arith, c.self.invariant.2)) c.mark_all.ensures.marked)
+    (rows-screen f _ (record { space = g.met.W.Widths.space_has_one c.self.inside.widths None }) c.self.invariant.0 (with_background c.args.color.now) (cells_of c.fill_rows.new.rows.items) done)
+    (lengths-screen f _ (record { space = g.met.W.Widths.space_has_one c.self.inside.widths None }) c.self.invariant.0 (with_background c.args.color.now) (cells_of c.fill_rows.new.rows.items) done)
+    c.in_ok-fill_rows.ensures.sides.flags)

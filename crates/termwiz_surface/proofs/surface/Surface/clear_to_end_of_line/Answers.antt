@@ -1,7 +1,7 @@
 use Rattle.std.proofs.Common.{◌≡◌, ◌-◌, ◌<◌, ◌∙◌, ◌&&◌, inl, inr, List, get_or, nat_lt, refl, ap, subst, arith}
 use Rattle.std.proofs.lemmas.Bool.{and_left, cases_lt, le-ltb, lt-ltb}
 use Rattle.termwiz_line.specs.LineFlags.{LineFlags, no_flags}
-use Rattle.std.specs.Prelude.{◌==◌, None, string_bytes}
+use Rattle.std.specs.Prelude.{◌==◌, None}
 use Rattle.termwiz_cell.specs.Attributes.{with_background}
 use Rattle.termwiz_cell.specs.CellValue.{blank_of}
 use Rattle.termwiz_cell.specs.Measure.{measure}
@@ -11,6 +11,7 @@ use Rattle.termwiz_surface.proofs.Drawn.{any_numbers}
 use Rattle.termwiz_line.proofs.StoredRows.{row-pruned}
 use Rattle.termwiz_storage.specs.Stored.{IsPruned, fill}
 use Rattle.termwiz_screen.specs.Screen.{row_at}
+use Rattle.termwiz_surface.proofs.Painted.{becomes-painted}
 use Rattle.termwiz_surface.proofs.RowNumbers.{marks-alike, marks-one, marks-shown}
 use Rattle.termwiz_surface.proofs.surface.Surface.clear_to_end_of_line.Goals as goal
 
@@ -45,26 +46,14 @@ returns-then-self-clause-ok g c =
     let y = c.self.inside.y in
     let width = c.self.inside.width in
     let none : width - c.self.inside.x ≡ 0 = omega (arith, c.if-self.true) in
-    rw (← c.self.view_is, c.in_ok-pen.ensures) (record {
-      widths = refl;
-      width = refl;
-      height = refl;
-      full = refl;
-      log = refl;
-      mark = refl;
-      rows = marks-shown _ y _ _ (λ j. and_left (nat_lt c.self.inside.x width) (j == y) (le-ltb c.self.inside.x width (omega (arith, c.if-self.true)))) refl refl
-          (row-pruned width _ _ (subst (λ k. IsPruned (fill k c.self.inside.x (blank_of (with_background c.args.color.now)) (row_at (cells_of c.self.inside.rows.items) y)) (row_at (cells_of c.fill_row.new.rows.items) y)) none done.here))
-          (λ j out. elim out [ inl before ↦ done.above j before | inr behind ↦ done.left j behind ])
-          c.in_ok-fill_row.ensures.sides.flags;
-      screen_is = rw (rows-eol f _ (record { space = g.met.W.Widths.space_has_one c.self.inside.widths None }) c.self.invariant.0 (with_background c.args.color.now) (cells_of c.fill_row.new.rows.items) done) refl;
-      kept_is = λ i. record {
-        lengths = lengths-eol f _ (record { space = g.met.W.Widths.space_has_one c.self.inside.widths None }) c.self.invariant.0 (with_background c.args.color.now) (cells_of c.fill_row.new.rows.items) done i;
-        flags = c.in_ok-fill_row.ensures.sides.flags i;
-        title = string_bytes c.self.inside.title;
-        shape = c.self.inside.shape;
-        color = c.self.inside.color;
-      };
-    })
+    rw (← c.self.view_is, c.in_ok-pen.ensures) (becomes-painted
+    (marks-shown _ y _ _ (λ j. and_left (nat_lt c.self.inside.x width) (j == y) (le-ltb c.self.inside.x width (omega (arith, c.if-self.true)))) refl refl
+    (row-pruned width _ _ (subst (λ k. IsPruned (fill k c.self.inside.x (blank_of (with_background c.args.color.now)) (row_at (cells_of c.self.inside.rows.items) y)) (row_at (cells_of c.fill_row.new.rows.items) y)) none done.here))
+    (λ j out. elim out [ inl before ↦ done.above j before | inr behind ↦ done.left j behind ])
+    c.in_ok-fill_row.ensures.sides.flags)
+    (rows-eol f _ (record { space = g.met.W.Widths.space_has_one c.self.inside.widths None }) c.self.invariant.0 (with_background c.args.color.now) (cells_of c.fill_row.new.rows.items) done)
+    (lengths-eol f _ (record { space = g.met.W.Widths.space_has_one c.self.inside.widths None }) c.self.invariant.0 (with_background c.args.color.now) (cells_of c.fill_row.new.rows.items) done)
+    c.in_ok-fill_row.ensures.sides.flags)
 
 pub returns-clause-ok : goal.returns-clause-ok
 returns-clause-ok g c =
@@ -75,23 +64,11 @@ returns-clause-ok g c =
       | inl less ↦ less
       | inr full ↦ absurd (c.if-self.false (omega (arith, full, c.self.invariant.0.column)))
     ] in
-    rw (← c.self.view_is, c.in_ok-pen.ensures) (record {
-      widths = refl;
-      width = refl;
-      height = refl;
-      full = refl;
-      log = refl;
-      mark = refl;
-      rows = marks-alike (λ j. j == y) _ _ _ (λ j. ap (λ b. b && (j == y)) (lt-ltb c.self.inside.x c.self.inside.width inner))
-          (marks-one y _ _ refl c.mark_row.ensures.marked
-          (λ j out. elim out [ inl before ↦ done.above j before | inr behind ↦ done.left j behind ])
-          (λ j out. ap (λ (fs : List LineFlags). get_or fs j no_flags) c.in_ok-fill_row.ensures.sides.flags));
-      screen_is = rw (rows-eol f _ (record { space = g.met.W.Widths.space_has_one c.self.inside.widths None }) c.self.invariant.0 (with_background c.args.color.now) (cells_of c.fill_row.new.rows.items) done) refl;
-      kept_is = λ i. record {
-        lengths = lengths-eol f _ (record { space = g.met.W.Widths.space_has_one c.self.inside.widths None }) c.self.invariant.0 (with_background c.args.color.now) (cells_of c.fill_row.new.rows.items) done i;
-        flags = c.in_ok-fill_row.ensures.sides.flags i;
-        title = string_bytes c.self.inside.title;
-        shape = c.self.inside.shape;
-        color = c.self.inside.color;
-      };
-    })
+    rw (← c.self.view_is, c.in_ok-pen.ensures) (becomes-painted
+    (marks-alike (λ j. j == y) _ _ _ (λ j. ap (λ b. b && (j == y)) (lt-ltb c.self.inside.x c.self.inside.width inner))
+    (marks-one y _ _ refl c.mark_row.ensures.marked
+    (λ j out. elim out [ inl before ↦ done.above j before | inr behind ↦ done.left j behind ])
+    (λ j out. ap (λ (fs : List LineFlags). get_or fs j no_flags) c.in_ok-fill_row.ensures.sides.flags)))
+    (rows-eol f _ (record { space = g.met.W.Widths.space_has_one c.self.inside.widths None }) c.self.invariant.0 (with_background c.args.color.now) (cells_of c.fill_row.new.rows.items) done)
+    (lengths-eol f _ (record { space = g.met.W.Widths.space_has_one c.self.inside.widths None }) c.self.invariant.0 (with_background c.args.color.now) (cells_of c.fill_row.new.rows.items) done)
+    c.in_ok-fill_row.ensures.sides.flags)

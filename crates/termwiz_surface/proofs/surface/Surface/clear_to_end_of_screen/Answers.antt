@@ -1,11 +1,12 @@
 use Rattle.std.proofs.Common.{◌∙◌, inl, inr, List, get_or, refl, ap, arith}
 use Rattle.termwiz_line.specs.LineFlags.{LineFlags, no_flags}
-use Rattle.std.specs.Prelude.{None, string_bytes}
+use Rattle.std.specs.Prelude.{None}
 use Rattle.termwiz_cell.specs.Attributes.{with_background}
 use Rattle.termwiz_cell.specs.Measure.{measure}
 use Rattle.termwiz_screen.specs.ScreenValue.{cells_of}
 use Rattle.termwiz_surface.proofs.Changed.{IsSound-partly, IsSound-eos, rows-eos, lengths-eos}
 use Rattle.termwiz_surface.proofs.Drawn.{any_numbers}
+use Rattle.termwiz_surface.proofs.Painted.{becomes-painted}
 use Rattle.termwiz_surface.proofs.RowNumbers.{marks-range, range-from}
 use Rattle.termwiz_surface.proofs.surface.Surface.clear_to_end_of_screen.Goals as goal
 
@@ -29,22 +30,10 @@ pub returns-clause-ok : goal.returns-clause-ok
 returns-clause-ok g c =
     let f = measure g.W.Widths.width_of c.self.inside.widths in
     let done = rw (c.in_ok-cleared.ensures, c.in_ok-pen.ensures) at c.in_ok-fill_rows.ensures.ok in
-    rw (← c.self.view_is, c.in_ok-pen.ensures) (record {
-      widths = refl;
-      width = refl;
-      height = refl;
-      full = refl;
-      log = refl;
-      mark = refl;
-      rows = marks-range _ _ _ c.self.inside.y _ (range-from c.self.inside.height c.self.inside.y) refl c.mark_rows.ensures.marked
-          (λ j out. elim out [ inl before ↦ done.above j before | inr behind ↦ done.left j (omega (arith, behind, c.self.invariant.0.full, c.self.invariant.0.row)) ])
-          (λ j out. ap (λ (fs : List LineFlags). get_or fs j no_flags) c.in_ok-fill_rows.ensures.sides.flags);
-      screen_is = rw (rows-eos f _ (record { space = g.met.W.Widths.space_has_one c.self.inside.widths None }) c.self.invariant.0 (with_background c.args.color.now) (cells_of c.fill_rows.new.rows.items) done) refl;
-      kept_is = λ i. record {
-        lengths = lengths-eos f _ (record { space = g.met.W.Widths.space_has_one c.self.inside.widths None }) c.self.invariant.0 (with_background c.args.color.now) (cells_of c.fill_rows.new.rows.items) done i;
-        flags = c.in_ok-fill_rows.ensures.sides.flags i;
-        title = string_bytes c.self.inside.title;
-        shape = c.self.inside.shape;
-        color = c.self.inside.color;
-      };
-    })
+    rw (← c.self.view_is, c.in_ok-pen.ensures) (becomes-painted
+    (marks-range _ _ _ c.self.inside.y _ (range-from c.self.inside.height c.self.inside.y) refl c.mark_rows.ensures.marked
+    (λ j out. elim out [ inl before ↦ done.above j before | inr behind ↦ done.left j (omega (arith, behind, c.self.invariant.0.full, c.self.invariant.0.row)) ])
+    (λ j out. ap (λ (fs : List LineFlags). get_or fs j no_flags) c.in_ok-fill_rows.ensures.sides.flags))
+    (rows-eos f _ (record { space = g.met.W.Widths.space_has_one c.self.inside.widths None }) c.self.invariant.0 (with_background c.args.color.now) (cells_of c.fill_rows.new.rows.items) done)
+    (lengths-eos f _ (record { space = g.met.W.Widths.space_has_one c.self.inside.widths None }) c.self.invariant.0 (with_background c.args.color.now) (cells_of c.fill_rows.new.rows.items) done)
+    c.in_ok-fill_rows.ensures.sides.flags)

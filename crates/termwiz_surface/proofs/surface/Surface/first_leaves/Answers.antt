@@ -10,8 +10,8 @@ use Rattle.termwiz_surface.specs.Surface.{SurfaceValue, screen_of}
 use Rattle.termwiz_surface.proofs.ScrolledOff.{cell-leaves, wrap-test}
 use Rattle.termwiz_surface.proofs.surface.Surface.first_leaves.Goals as goal
 
-pub returns-then-as_bytes-ge32 : goal.returns-then-as_bytes-ge32
-returns-then-as_bytes-ge32 g c =
+pub returns-then-as_bytes-ge32-clause-leaves : goal.returns-then-as_bytes-ge32-clause-leaves
+returns-then-as_bytes-ge32-clause-leaves g c =
     let s : SurfaceValue _ = c.args.self.now in
     let text : List ℕ = c.args.text.now in
     let high : 32 ≤ get_or text 0 0 = rw c.as_bytes.ensures.value at c.if-as_bytes-ge32.true in

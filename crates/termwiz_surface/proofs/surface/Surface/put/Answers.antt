@@ -1,10 +1,11 @@
 use Rattle.std.proofs.Common.{◌≡◌, ◌+◌, ◌<◌, ℕ, List, min, ap, refl, sym, subst, ◌∙◌}
-use Rattle.std.specs.Prelude.{None, string_bytes}
+use Rattle.std.specs.Prelude.{None}
 use Rattle.termwiz_cell.specs.CellValue.{columns}
 use Rattle.termwiz_cell.specs.Measure.{measure}
 use Rattle.termwiz_surface.specs.Surface.{SurfaceValue}
 use Rattle.termwiz_screen.specs.Measured.{IsMeasured}
 use Rattle.termwiz_surface.proofs.Drawn.{any_numbers, IsSound-put, rows-put, lengths-put}
+use Rattle.termwiz_surface.proofs.Painted.{becomes-painted}
 use Rattle.termwiz_surface.proofs.RowNumbers.{marks-set}
 use Rattle.termwiz_surface.proofs.surface.Surface.put.Given as given
 use Rattle.termwiz_surface.proofs.surface.Surface.put.Goals as goal
@@ -32,20 +33,8 @@ invariant_of-self-2 g c = (
 
 pub returns-clause-ok : goal.returns-clause-ok
 returns-clause-ok g c =
-    rw (← c.self.view_is, c.in_ok-paint_row.ensures.ok, x_is g c) (record {
-      widths = refl;
-      width = refl;
-      height = refl;
-      full = refl;
-      log = refl;
-      mark = refl;
-      rows = marks-set c.self.inside.y _ _ _ refl c.mark_row.ensures.marked refl c.in_ok-paint_row.ensures.sides.flags;
-      screen_is = rw (rows-put (width g c) _ c.args.cell c.self.invariant.0 (inside g c)) refl;
-      kept_is = λ i. record {
-        lengths = lengths-put (width g c) _ c.args.cell c.self.invariant.0 (inside g c) i;
-        flags = c.in_ok-paint_row.ensures.sides.flags i;
-        title = string_bytes c.self.inside.title;
-        shape = c.self.inside.shape;
-        color = c.self.inside.color;
-      };
-    })
+    rw (← c.self.view_is, c.in_ok-paint_row.ensures.ok, x_is g c) (becomes-painted
+    (marks-set c.self.inside.y _ _ _ refl c.mark_row.ensures.marked refl c.in_ok-paint_row.ensures.sides.flags)
+    (rows-put (width g c) _ c.args.cell c.self.invariant.0 (inside g c))
+    (lengths-put (width g c) _ c.args.cell c.self.invariant.0 (inside g c))
+    c.in_ok-paint_row.ensures.sides.flags)

@@ -1,5 +1,5 @@
 use Rattle.std.proofs.Common.{◌≡◌, ◌<◌, ℕ, List, [], ◌∷◌, length, replicate, set, ap, refl, sym, subst, ◌∙◌, arith}
-use Rattle.std.specs.Prelude.{None, string_bytes}
+use Rattle.std.specs.Prelude.{None}
 use Rattle.std.proofs.lemmas.List.{map-set}
 use Rattle.termwiz_cell.specs.CellValue.{CellValue, blank}
 use Rattle.termwiz_cell.specs.Measure.{measure}
@@ -11,6 +11,7 @@ use Rattle.termwiz_screen.proofs.Lines.{cells-set, length-cells_of}
 use Rattle.termwiz_screen.proofs.RowChanges.Scrolled.{vectors-set}
 use Rattle.termwiz_surface.specs.ScrolledOff.{ScrollsOff, ShownRow, row_shown}
 use Rattle.termwiz_surface.specs.Surface.{SurfaceValue, IsSound, kept_of, screen_of}
+use Rattle.termwiz_surface.proofs.Painted.{becomes-painted}
 use Rattle.termwiz_surface.proofs.RowNumbers.{marks-one, set-outside}
 use Rattle.termwiz_surface.proofs.ScrolledOff.{IsSound-taken, lengths-set, rows-set, shown-read}
 use Rattle.termwiz_surface.proofs.surface.Surface.take_row.Goals as goal
@@ -33,25 +34,13 @@ returns-clause-ok g c =
     let row : List CellValue = replicate c.self.inside.width blank in
     let blank_is : c.take.new.row ≡ numberless row = c.in_ok-take.ensures.row c.requires.keeps in
     let flags : row_flags (set items c.args.row (numberless row)) ≡ set (row_flags items) c.args.row no_flags = map-set (λ (l : LineValue). l.flags) items c.args.row (numberless row) in
-    rw (← c.self.view_is, blank_is, cells-set items c.args.row (numberless row), flags) (record {
-      widths = refl;
-      width = refl;
-      height = refl;
-      full = refl;
-      log = refl;
-      mark = refl;
-      rows = marks-one c.args.row _ _ refl c.mark_row.ensures.marked
-          (set-outside (cells_of items) c.args.row row [])
-          (set-outside (row_flags items) c.args.row no_flags no_flags);
-      screen_is = rw (rows-set c.self.inside.width (cells_of items) c.args.row) refl;
-      kept_is = λ i. record {
-        lengths = lengths-set c.self.inside.width (cells_of items) c.args.row i;
-        flags = set (row_flags items) c.args.row no_flags;
-        title = string_bytes c.self.inside.title;
-        shape = c.self.inside.shape;
-        color = c.self.inside.color;
-      };
-    })
+    rw (← c.self.view_is, blank_is, cells-set items c.args.row (numberless row), flags) (becomes-painted
+    (marks-one c.args.row _ _ refl c.mark_row.ensures.marked
+    (set-outside (cells_of items) c.args.row row [])
+    (set-outside (row_flags items) c.args.row no_flags no_flags))
+    (rows-set c.self.inside.width (cells_of items) c.args.row)
+    (lengths-set c.self.inside.width (cells_of items) c.args.row)
+    refl)
 
 pub returns-clause-moves : goal.returns-clause-moves
 returns-clause-moves g c =

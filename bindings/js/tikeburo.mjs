@@ -13,11 +13,15 @@ const AT_ONCE = 65536; // what is buffered stays near the limit, however much co
 // The numbers that a delta shares with the screen, and the fault where one is another.
 const SHARED = { surface: 'stale', base: 'stale', width: 'size', height: 'size' };
 
+// Whether a `TextDecoder` reads bytes of this buffer: not where it is shared, or may be resized.
+const isDecodable = buffer => buffer instanceof ArrayBuffer && !buffer.resizable;
+
 export class Client {
     screen = new Screen();
     answers = 0;
     fault = null;
     #bytes = new Uint8Array(); // of the coming answer
+    #isLent = false; // whether they lie in the buffer of a caller
     #answer = null; // what is read of it
     #wanted = 1; // it doesn't end before this many bytes
 
@@ -43,9 +47,13 @@ export class Client {
     }
 
     feed(bytes) {
+        const isPlain = isDecodable(bytes.buffer);
         for (let at = 0; at < bytes.length && !this.fault; at += AT_ONCE) {
-            this.#append(bytes.subarray(at, at + AT_ONCE));
+            const some = bytes.subarray(at, at + AT_ONCE);
+            if (this.pending || !isPlain) this.#append(some);
+            else this.#setBytes(some, true);
             while (!this.fault && this.pending >= this.#wanted) this.#read(false);
+            if (this.#isLent) this.#setBytes(new Uint8Array(this.#bytes), false);
         }
     }
 
@@ -54,16 +62,21 @@ export class Client {
         return this.fault;
     }
 
+    #setBytes(bytes, isLent) {
+        this.#bytes = bytes;
+        this.#isLent = isLent;
+    }
+
     /** Puts bytes after those that are there, in a greater buffer where this one is full. */
     #append(bytes) {
         const { buffer, byteOffset, length } = this.#bytes, end = length + bytes.length;
-        let room = new Uint8Array(buffer, byteOffset);
+        let room = this.#isLent ? this.#bytes : new Uint8Array(buffer, byteOffset);
         if (end > room.length) {
             room = new Uint8Array(2 * end + AT_ONCE);
             room.set(this.#bytes);
         }
         room.set(bytes, length);
-        this.#bytes = room.subarray(0, end);
+        this.#setBytes(room.subarray(0, end), false);
     }
 
     /** Drops this many bytes: the next answer begins after them. */

@@ -36,6 +36,39 @@ test('a new connection goes on from what is shown', () => {
     assert.equal(String(client.screen), 'viewer 6\n|abc |\ncursor 3 0\n');
 });
 
+test('bytes stay the caller\'s, whatever their buffer is', () => {
+    const all = join(repaint(4, 1, 5, [2, 'ab']), delta(4, 1, 5, [2, 'c']), delta(4, 1, 6, [2, 'd']));
+    for (const length of [1, 7, 20, all.length]) {
+        for (const buffer of [new ArrayBuffer(99), new SharedArrayBuffer(99),
+            new ArrayBuffer(99, { maxByteLength: 999 })]) {
+            const client = new Client(), room = new Uint8Array(buffer);
+            for (let at = 0; at < all.length; at += length) {
+                const some = all.subarray(at, at + length);
+                room.set(some, 3);
+                client.feed(room.subarray(3, 3 + some.length));
+                assert.deepEqual(room.subarray(3, 3 + some.length), some);
+                room.fill(0xff);
+            }
+            assert.equal(client.end(), null);
+            assert.equal(String(client.screen), 'viewer 7\n|abcd|\ncursor 4 0\n');
+        }
+    }
+});
+
+test('a callback may feed on', () => {
+    const answers = [[2, 'a'], [2, 'b'], [2, 'c']].map((text, at) => delta(4, 1, 5 + at, text));
+    const room = new Uint8Array(999), last = answers.at(-1);
+    const client = new Client({
+        onanswer: ({ answers: count }) => count === 1 && client.feed(last.subarray(0, 4)),
+    });
+    const first = join(repaint(4, 1, 5), answers[0], answers[1]);
+    room.set(first);
+    client.feed(room.subarray(0, first.length));
+    client.feed(last.subarray(4));
+    assert.deepEqual(room.subarray(first.length, first.length + 9), new Uint8Array(9));
+    assert.equal(String(client.screen), 'viewer 8\n|abc |\ncursor 3 0\n');
+});
+
 test('after damage the screen stays, and a repaint is asked for', () => {
     const client = new Client();
     client.feed(join(repaint(4, 1, 5, [2, 'ab']), [0x87, 2, 0]));

@@ -247,7 +247,6 @@ impl<W: Widths> Surface<W> {
         Ok(())
     }
 
-    #[inline(always)]
     pub(super) fn apply_all<L: LineSink>(
         &mut self,
         list: &ChangeList<'_>,

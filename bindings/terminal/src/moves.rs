@@ -131,7 +131,7 @@ impl Emulator {
             }
             return;
         }
-        if below == y {
+        if is_alike && below == y {
             self.note_scroll(1);
         }
         self.cursor.y = below;
@@ -174,6 +174,12 @@ impl Emulator {
         let has_no_margins = self.rows.len() == self.height && self.columns.len() == self.width;
         let scrolls_alike = has_no_margins && self.background() == ColorAttribute::Default;
         y + count < end || scrolls_alike
+    }
+
+    /// Leaves a wrap pending only at the edge that texts reach from the cursor: margins may have been
+    /// others when it was.
+    pub(crate) fn fit_wrap(&mut self) {
+        self.cursor.is_wrap_pending &= self.cursor.end() == self.right_edge();
     }
 
     /// Sets the rows between the margins, counted from 1 to the last one, or 0 for all.

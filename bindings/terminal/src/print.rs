@@ -92,7 +92,7 @@ impl Emulator {
         let mut rest = text;
         while let Some(first) = rest.chars().next() {
             let room = self.right_edge() - self.cursor.end();
-            let run = Run::new(rest, room, self.surface.widths());
+            let run = self.run_in_row(rest, room);
             if run.length > 0 {
                 let piece = &rest[..run.length];
                 self.insert(run.columns);
@@ -105,6 +105,22 @@ impl Emulator {
                 rest = &rest[first.len_utf8()..];
             }
         }
+    }
+
+    /// The run at the beginning of a text that has room in `room` columns. Where cells are inserted
+    /// between margins only, one that begins before them ends there, or is one character.
+    fn run_in_row(&self, text: &str, room: usize) -> Run {
+        let widths = self.surface.widths();
+        let before = self.columns.start.saturating_sub(self.cursor.x);
+        if !self.modes.insert || before == 0 {
+            return Run::new(text, room, widths);
+        }
+        let run = Run::new(text, room.min(before), widths);
+        if run.length > 0 {
+            return run;
+        }
+        let first = text.chars().next().map_or(0, char::len_utf8);
+        Run::new(&text[..first], room, widths)
     }
 
     /// Goes to a place with room for `columns`: to the next row, or back. Returns whether there is

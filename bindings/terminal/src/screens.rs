@@ -32,6 +32,7 @@ impl Emulator {
     pub(crate) fn restore_cursor(&mut self) {
         let saved = &self.screens.saved[usize::from(self.screens.is_alternate)];
         self.cursor = saved.clone();
+        self.fit_wrap();
         self.batch.change_pen();
     }
 

@@ -223,6 +223,7 @@ impl Emulator {
             69 => {
                 self.modes.left_right_margins = is_on;
                 self.columns = 0..self.width;
+                self.fit_wrap();
             }
             _ => return self.set_screen(number, is_on) || self.modes.set_private(number, is_on),
         }

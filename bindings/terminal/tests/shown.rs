@@ -292,6 +292,16 @@ fn rows_scroll_between_margins() {
                 (0, 2),
             ),
             ("1\r\n2\r\n3\x1b[1;2r\x1b[3;1H\n4", &["1", "2", "4"], (1, 2)),
+            (
+                "1\r\n2\r\n3\x1b[1;2r\x1b[3;1H\n\n\n\n4",
+                &["1", "2", "4"],
+                (1, 2),
+            ),
+            (
+                "1\r\n2\r\n3\x1b[1;2r\x1b[3;1Habcdefghijklmnopqrstuvwxyz",
+                &["1", "2", "yzuvwx"],
+                (2, 2),
+            ),
             ("1\r\n2\r\n3\x1b[1;2r\x1b[S", &["2", "", "3"], (0, 0)),
             ("ab\x1b[3;2rc", &["abc", "", ""], (3, 0)),
             ("ab\x1b[2;2rc", &["abc", "", ""], (3, 0)),
@@ -328,7 +338,7 @@ fn rows_scroll_between_margins() {
 #[test]
 fn margins_at_the_left_and_the_right() {
     const LETTERS: &str = "abcdef\r\nghijkl\r\nmnopqr\x1b[?69h\x1b[2;4s";
-    let cases: [(&str, [&str; 3], (usize, usize)); 8] = [
+    let cases: [(&str, [&str; 3], (usize, usize)); 10] = [
         ("", ["abcdef", "ghijkl", "mnopqr"], (0, 0)),
         ("\x1b[S", ["ahijef", "gnopkl", "m   qr"], (0, 0)),
         ("\x1b[T", ["a   ef", "gbcdkl", "mhijqr"], (0, 0)),
@@ -336,6 +346,9 @@ fn margins_at_the_left_and_the_right() {
         ("\x1b[1;2H\x1b[P", ["acd ef", "ghijkl", "mnopqr"], (1, 0)),
         ("\x1b[1;2H\x1b[@", ["a bcef", "ghijkl", "mnopqr"], (1, 0)),
         ("\x1b[1;3HXYZ", ["abXYef", "gZijkl", "mnopqr"], (2, 1)),
+        // Cells are inserted between the margins alone.
+        ("\x1b[4hXYZ", ["XYZbef", "ghijkl", "mnopqr"], (3, 0)),
+        ("\x1b[4hかX", ["かXcef", "ghijkl", "mnopqr"], (3, 0)),
         (
             "\x1b[?69l\x1b[2HABCDEFG",
             ["abcdef", "ABCDEF", "Gnopqr"],
@@ -355,6 +368,17 @@ fn margins_at_the_left_and_the_right() {
                 (2, 2),
             ),
             ("\x1b[?69h\x1b[2;4s\x1b[1;3Hx\ry", &[" yx", "", ""], (2, 0)),
+            // No wrap waits where texts go on.
+            (
+                "\x1b[?7l\x1b[?69h\x1b[2;4sabcde\x1b[?69lx\u{301}",
+                &["abcx\u{301}", "", ""],
+                (4, 0),
+            ),
+            (
+                "\x1b[?7l\x1b[?69h\x1b[2;4sabcd\x1b7\x1b[?69l\x1b8xy",
+                &["abcxy", "", ""],
+                (5, 0),
+            ),
             (
                 "\x1b[?69h\x1b[2;4s\x1b[?6hx\x1b[9;9Hy",
                 &[" x", "", "   y"],

@@ -43,11 +43,24 @@ const TEXTS: [&str; 20] = [
     "\u{1100}\u{1161}",
     "\u{fffd}",
 ];
-const CONTROLS: [&str; 14] = [
-    "\r", "\n", "\r\n", "\x08", "\t", "\x0e", "\x0f", "\x07", "\x0b", "\x18", "\x1a", "\0", "\x7f",
+const CONTROLS: [&str; 15] = [
+    "\r",
+    "\n",
+    "\r\n",
+    "\n\n\n\n\n",
+    "\x08",
+    "\t",
+    "\x0e",
+    "\x0f",
+    "\x07",
+    "\x0b",
+    "\x18",
+    "\x1a",
+    "\0",
+    "\x7f",
     "\u{85}",
 ];
-const ESCAPES: [&str; 25] = [
+const ESCAPES: [&str; 26] = [
     "\x1b7",
     "\x1b8",
     "\x1bD",
@@ -72,6 +85,7 @@ const ESCAPES: [&str; 25] = [
     "\x1b_text\x1b\\",
     "\x1b[!p",
     "\x1b[3 q",
+    "\x1b[1;2r",
     "\x1b[?7$p",
 ];
 const MODES: [u16; 14] = [

@@ -176,8 +176,8 @@ impl Emulator {
         y + count < end || scrolls_alike
     }
 
-    /// Leaves a wrap pending only at the edge that texts reach from the cursor: margins may have been
-    /// others when it was.
+    /// Leaves a wrap pending only at the edge that texts reach from the cursor: the margins may have
+    /// changed since the row was filled.
     pub(crate) fn fit_wrap(&mut self) {
         self.cursor.is_wrap_pending &= self.cursor.end() == self.right_edge();
     }

@@ -107,8 +107,9 @@ impl Emulator {
         }
     }
 
-    /// The run at the beginning of a text that has room in `room` columns. Where cells are inserted
-    /// between margins only, one that begins before them ends there, or is one character.
+    /// The run at the beginning of a text that has room in `room` columns. Cells are inserted between
+    /// the margins alone: in insert mode a run that begins before them ends there, or is one
+    /// character.
     fn run_in_row(&self, text: &str, room: usize) -> Run {
         let widths = self.surface.widths();
         let before = self.columns.start.saturating_sub(self.cursor.x);

@@ -100,7 +100,8 @@ fn judge(bytes: &[u8]) -> Result<[usize; 3], String> {
         if let [Some(first), Some(second)] = others {
             let at = DISTANCE * counts[0];
             return Err(format!(
-                "before byte {at} not as alacritty_terminal shows {first}, nor as vt100 {second}"
+                "before byte {at} neither of the others shows the same: alacritty_terminal differs \
+                 in {first}, and vt100 in {second}"
             ));
         }
     }
@@ -133,7 +134,7 @@ fn judge_random(count: usize) -> Result<(), String> {
         agreed += 1;
         if let Some(what) = difference(&shown_by::<Ours>(size, program.as_bytes()), &vt) {
             return Err(format!(
-                "{size:?} {program:?}: not as both others show {what}"
+                "{size:?} {program:?}: both others differ in {what}"
             ));
         }
     }

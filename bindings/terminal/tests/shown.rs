@@ -293,14 +293,15 @@ fn rows_scroll_between_margins() {
             ),
             ("1\r\n2\r\n3\x1b[1;2r\x1b[3;1H\n4", &["1", "2", "4"], (1, 2)),
             (
-                "1\r\n2\r\n3\x1b[1;2r\x1b[3;1H\n\n\n\n4",
+                "1\r\n2\r\n3\x1b[1;2r\x1b[3;1H\n\n\n\n\n\n\n\n4",
                 &["1", "2", "4"],
                 (1, 2),
             ),
             (
-                "1\r\n2\r\n3\x1b[1;2r\x1b[3;1Habcdefghijklmnopqrstuvwxyz",
-                &["1", "2", "yzuvwx"],
-                (2, 2),
+                "1\r\n2\r\n3\x1b[1;2r\x1b[3;1H\
+                abcdefghijklmnopqrstuvwxyzabcdefghijklmnopqrstuvwxyz",
+                &["1", "2", "wxyzuv"],
+                (4, 2),
             ),
             ("1\r\n2\r\n3\x1b[1;2r\x1b[S", &["2", "", "3"], (0, 0)),
             ("ab\x1b[3;2rc", &["abc", "", ""], (3, 0)),

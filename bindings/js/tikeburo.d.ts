@@ -153,7 +153,10 @@ export class Client {
     /** Why the stream is read no further. */
     readonly fault: Fault | null;
 
-    /** Takes the stream's next bytes. Behind a fault they are left out. */
+    /**
+     * Takes the stream's next bytes, and reads them in place: nothing may change them until it
+     * returns. Behind a fault they are left out.
+     */
     feed(bytes: Uint8Array): void;
 
     /** The stream has ended. Returns the fault, which is `truncated` within an answer. */

@@ -16,7 +16,6 @@
 mod scripts;
 mod stages;
 mod streams;
-mod surfaces;
 
 use playing::error::PlayError;
 use playing::play::play_input;

@@ -1,9 +1,9 @@
 //! The stages, of which one is set at a time.
-use crate::{scripts, streams, surfaces};
+use crate::{scripts, streams};
 use playing::error::PlayError;
 use playing::play::Play;
 use playing::turn::Turn;
-use playing::{cells, lines};
+use playing::{cells, lines, surfaces};
 use std::alloc::Global;
 
 #[derive(Drop)]

@@ -1,6 +1,6 @@
 //! Screens that are carried to a viewer by the bytes of a repaint.
 use crate::streams::given::{note_change, paint, sent, size_of};
-use crate::surfaces::measure::Measure;
+use playing::surfaces::measure::Measure;
 use playing::error::PlayError;
 use playing::turn::Turn;
 use termwiz_cell::change::{Change, Position};

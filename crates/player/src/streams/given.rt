@@ -1,8 +1,8 @@
 //! What the words of a line give, and what a surface shows.
 ghost use Rattle.std.specs.Prelude.{◌<◌, ◌^◌};
 
-use crate::surfaces::answers;
-use crate::surfaces::sizes::checked_size;
+use playing::surfaces::answers;
+use playing::surfaces::sizes::checked_size;
 use playing::error::PlayError;
 use playing::turn::Turn;
 use termwiz_cell::change::Change;

@@ -23,8 +23,8 @@ pub const MEASURES: [(&str, Measure); 3] = [
 
 impl Widths for Measure {
     ghost use Rattle.std.specs.Prelude.{None};
-    ghost use Rattle.player.specs.Measured.{columns_of_measure};
-    ghost use Rattle.player.specs.MeasuredLaws.{measured-le, measured-space};
+    ghost use Rattle.playing.specs.Measured.{columns_of_measure};
+    ghost use Rattle.playing.specs.MeasuredLaws.{measured-le, measured-space};
     ghost use Rattle.termwiz_cell.specs.declared.emoji.Presentation.TheVariants.{Text};
 
     ghost width_of = { λ measure text _. columns_of_measure measure text };

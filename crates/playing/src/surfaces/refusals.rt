@@ -1,7 +1,7 @@
 //! What calls to which memory is refused leave of a surface.
 use crate::surfaces::answers::is_same;
 use crate::surfaces::measure::Measure;
-use playing::turn::Turn;
+use crate::turn::Turn;
 use termwiz_surface::surface::Surface;
 use termwiz_surface::view::Viewer;
 

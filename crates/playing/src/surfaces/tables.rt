@@ -1,7 +1,7 @@
 //! Tables of diffs, by how many graphemes they print, and of what a text leaves at each place.
+use crate::error::PlayError;
 use crate::surfaces::measure::Measure;
-use playing::error::PlayError;
-use playing::turn::Turn;
+use crate::turn::Turn;
 use termwiz_cell::change::{Change, Position};
 use termwiz_surface::surface::Surface;
 use unicode_segmentation::UnicodeSegmentation;

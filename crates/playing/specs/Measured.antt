@@ -1,8 +1,8 @@
 -- The columns of a text by each measure.
 use Rattle.std.specs.Prelude.{ℕ, List, [], ◌∷◌, bytes_eq, if◌then◌else◌}
 use Rattle.termwiz_cell.specs.Width.{unicode_columns}
-use Rattle.player.specs.declared.surfaces.measure.Measure.{Measure}
-use Rattle.player.specs.declared.surfaces.measure.Measure.TheVariants.{Unicode, One, Wide}
+use Rattle.playing.specs.declared.surfaces.measure.Measure.{Measure}
+use Rattle.playing.specs.declared.surfaces.measure.Measure.TheVariants.{Unicode, One, Wide}
 
 unfoldable pub columns_of_measure : Measure → List ℕ → ℕ
 columns_of_measure Unicode text = unicode_columns text

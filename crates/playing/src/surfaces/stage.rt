@@ -1,4 +1,6 @@
 //! The surfaces of a case, and what the lines do with them.
+use crate::error::PlayError;
+use crate::play::Play;
 use crate::surfaces::answers::{answer, is_same, push_changes, push_made, push_refused};
 use crate::surfaces::lists::{keep_blank_lines, make_list, push_scrollback};
 use crate::surfaces::measure::Measure;
@@ -7,9 +9,7 @@ use crate::surfaces::runs::run;
 use crate::surfaces::sequences::Sequence;
 use crate::surfaces::sizes::{checked_size, measured_size};
 use crate::surfaces::tables::{diffs, regions};
-use playing::error::PlayError;
-use playing::play::Play;
-use playing::turn::Turn;
+use crate::turn::Turn;
 use std::alloc::Global;
 use termwiz_cell::cell::{Cell, CellAttributes};
 use termwiz_cell::change::{Change, SequenceError, SequenceNo};

@@ -1,8 +1,8 @@
 //! Answers to the questions about a surface, and to calls on it.
+use crate::error::PlayError;
 use crate::surfaces::measure::Measure;
 use crate::surfaces::tables::prints;
-use playing::error::PlayError;
-use playing::turn::Turn;
+use crate::turn::Turn;
 use std::borrow::CowSlice;
 use std::fmt::Display;
 use termwiz_cell::change::{Change, SequenceNo};

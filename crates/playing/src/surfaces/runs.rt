@@ -2,11 +2,11 @@
 ghost use Rattle.std.specs.Prelude.{◌≡◌, true};
 ghost use Rattle.termwiz_surface.specs.{All, IsInRange};
 
+use crate::error::PlayError;
 use crate::surfaces::answers::{push_changes, push_full, push_rows};
 use crate::surfaces::measure::Measure;
 use crate::surfaces::sizes::{MOST, measured_size};
-use playing::error::PlayError;
-use playing::turn::Turn;
+use crate::turn::Turn;
 use std::mem;
 use termwiz_surface::view::{self, Event, Outcome, run_full};
 

@@ -1,9 +1,9 @@
 //! Sequences of changes in cases.
+use crate::error::PlayError;
 use crate::surfaces::answers::push_refused;
 use crate::surfaces::measure::Measure;
 use crate::surfaces::sizes::checked_size;
-use playing::error::PlayError;
-use playing::turn::Turn;
+use crate::turn::Turn;
 use std::mem;
 use termwiz_cell::change::{Change, ChangeSequence, SequenceError};
 

@@ -2,9 +2,9 @@
 use Rattle.std.specs.Prelude.{◌≡◌, ◌≤◌, ℕ, List, [], ◌∷◌, refl}
 use Rattle.std.proofs.Common.{arith}
 use Rattle.termwiz_cell.specs.WidthLaws.{unicode_columns-le, unicode_columns-space}
-use Rattle.player.specs.Measured.{columns_of_measure}
-use Rattle.player.specs.declared.surfaces.measure.Measure.{Measure}
-use Rattle.player.specs.declared.surfaces.measure.Measure.TheVariants.{Unicode, One, Wide}
+use Rattle.playing.specs.Measured.{columns_of_measure}
+use Rattle.playing.specs.declared.surfaces.measure.Measure.{Measure}
+use Rattle.playing.specs.declared.surfaces.measure.Measure.TheVariants.{Unicode, One, Wide}
 
 pub measured-le : (measure : Measure) (text : List ℕ) → columns_of_measure measure text ≤ 2
 unfolding columns_of_measure

@@ -1,9 +1,9 @@
 //! Sizes of surfaces by their words.
 ghost use Rattle.std.specs.Prelude.{◌<◌, ◌^◌, IfSome};
 
+use crate::error::PlayError;
 use crate::surfaces::measure::{MEASURES, Measure};
-use playing::error::PlayError;
-use playing::turn::Turn;
+use crate::turn::Turn;
 
 /// The most columns of a surface, and its most rows.
 pub const MOST: usize = u32::MAX as usize;

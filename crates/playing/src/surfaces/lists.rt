@@ -1,6 +1,6 @@
 //! Lists of changes that are made on a surface, logged or not, and the lines that they scroll off.
 use crate::surfaces::measure::Measure;
-use playing::turn::Turn;
+use crate::turn::Turn;
 use termwiz_cell::change::{Change, SequenceNo};
 use termwiz_line::line::line::Line;
 use termwiz_surface::surface::{ChangeList, LentChange, LentChanges, Surface, SurfaceError};

@@ -1,6 +1,6 @@
 use Rattle.std.specs.List.{AllWithin}
 use Rattle.termwiz_surface.specs.{IsInRange}
-use Rattle.player.proofs.surfaces.runs.are_in_range.Given as goal
+use Rattle.playing.proofs.surfaces.runs.are_in_range.Given as goal
 
 -- the events so far are in range
 abbrev pub invariant-loop-event : goal.invariant-loop-event

@@ -37,7 +37,7 @@ use Rattle.termwiz_surface.proofs.Drawn.{any_flags, any_numbers, IsSound-partly_
 use Rattle.termwiz_surface.proofs.Printing.{IsRun}
 use Rattle.termwiz_surface.specs.Touching.{one_touches, piece_touches, scroll_touches, touched, touched_by, touches}
 use Rattle.termwiz_surface.proofs.Touching.{below-more, scroll-over}
-use Rattle.termwiz_surface.proofs.RowNumbers.{MarksSome, marks-alike, marks-then, some-all, some-more, some-none}
+use Rattle.termwiz_surface.proofs.RowNumbers.{MarksSome, marks-alike, marks-then, some-more, some-none}
 
 -- ---- lists of lines
 
@@ -538,26 +538,7 @@ module _ {W : Type 0} (keeps : Bool) (f : List ℕ → ℕ) (r : SurfaceValue W)
     leaves = λ on. leaves-all r.width (rows_scrolled_off f (screen_of r) (kept_of r) all) u;
   }
 
-  pub part-all : (s : SurfaceValue W) (v : List LineValue) → AppliesPart keeps f r all [] u s v → Becomes r (replay f (screen_of r) all) (replay_kept f (screen_of r) (kept_of r) all) (touched f (screen_of r) all) s
-  part-all s v p = record {
-    widths = p.frame.widths;
-    width = p.frame.width;
-    height = p.frame.height;
-    full = p.frame.full;
-    log = p.frame.log;
-    mark = p.mark;
-    rows = some-all (touched f (screen_of r) all) (touched f (screen_of s) []) r s (λ j. refl) p.rows;
-    screen_is = p.screen;
-    kept_is = p.kept;
-  }
-
-  pub part-off : (s : SurfaceValue W) (v : List LineValue) → AppliesPart keeps f r all [] u s v → IsTrue keeps → ScrollsOff r.width (rows_scrolled_off f (screen_of r) (kept_of r) all) u v
-  part-off s v p on = off-leaves r.width (rows_scrolled_off f (screen_of r) (kept_of r) all) [] u v refl (p.leaves on)
-
   module _ (c : ChangeValue) (left : List ChangeValue) (s : SurfaceValue W) (v : List LineValue) (p : AppliesPart keeps f r all (c ∷ left) u s v) where
-    pub part-fits : region_fits s.height c ≡ true
-    part-fits = ap (λ (h : ℕ). region_fits h c) p.frame.height ∙ (and_parts (region_fits r.height c) (regions_fit r.height left) p.fit).0
-
     -- what the change scrolls off, and what those after it do
     rows_left : (t : SurfaceValue W) → Becomes s (step f (screen_of s) c) (step_kept f (screen_of s) (kept_of s) c) (touches f (screen_of s) c) t → rows_scrolled_off f (screen_of s) (kept_of s) (c ∷ left) ≡ left_step f (screen_of s) (kept_of s) c ++ rows_scrolled_off f (screen_of t) (kept_of t) left
     rows_left t b = ap₂ (λ (z : Screen) (k : Kept). left_step f (screen_of s) (kept_of s) c ++ rows_scrolled_off f z k left) (sym b.screen_is) (sym b.kept_is)

@@ -116,7 +116,9 @@ impl<W: Widths> Surface<W> {
         }
     }
 
-    // The repaint of a surface of this kind.
+    // The repaint of a surface of this kind. It is kept out of line, so that the path of deltas is
+    // short.
+    #[inline(never)]
     fn repaint(&self) -> Result<Vec<Change>, AllocError>
         ensures { IfOk result (λ changes. map change_value changes.items ≡ own_repaint self.now) }
     {

@@ -193,6 +193,7 @@ impl<W: Widths> Surface<W> {
         Ok(())
     }
 
+    #[inline(always)]
     fn apply<L: LineSink>(
         &mut self,
         change: ListedChange<'_>,
@@ -247,6 +248,8 @@ impl<W: Widths> Surface<W> {
         Ok(())
     }
 
+    // Applies the changes of a list in order. A single one needs no loop.
+    #[inline(always)]
     pub(super) fn apply_all<L: LineSink>(
         &mut self,
         list: &ChangeList<'_>,
@@ -271,8 +274,13 @@ impl<W: Widths> Surface<W> {
         ensures empty { OnErr result (0 < length (change_list list.now)) }
         ensures none { length (change_list list.now) ≡ 0 → self.new ≡ self.old }
     {
-        for i in 0..list.len() {
-            self.apply(list.at(i), lines)?;
+        match list {
+            ChangeList::One(change) => self.apply(ListedChange::Whole(change), lines)?,
+            _ => {
+                for i in 0..list.len() {
+                    self.apply(list.at(i), lines)?;
+                }
+            }
         }
         Ok(())
     }

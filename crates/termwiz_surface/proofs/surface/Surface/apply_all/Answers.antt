@@ -1,6 +1,5 @@
-use Rattle.std.proofs.Common.{◌≡◌, ◌+◌, ◌<◌, ℕ, List, [], ◌∷◌, drop, length, refl, subst, arith}
+use Rattle.std.proofs.Common.{◌+◌, ◌<◌, ℕ, List, ◌∷◌, drop, length, refl, subst, arith}
 use Rattle.std.specs.Prelude.{IsTrue}
-use Rattle.std.proofs.lemmas.List.{drop_all}
 use Rattle.termwiz_cell.specs.ChangeValue.{ChangeValue}
 use Rattle.termwiz_cell.specs.Measure.{measure}
 use Rattle.termwiz_line.specs.LineValue.{LineValue}
@@ -9,7 +8,7 @@ use Rattle.termwiz_screen.specs.Step.{step, step_kept}
 use Rattle.termwiz_surface.specs.ChangeLists.{change_list, listed_value}
 use Rattle.termwiz_surface.specs.ScrolledOff.{BeginsRows, ScrollsOff, left_step}
 use Rattle.termwiz_surface.specs.Surface.{SurfaceValue, Becomes, screen_of, kept_of}
-use Rattle.termwiz_surface.proofs.ScrolledOff.{AppliesPart, drop-next, part-all, part-begins, part-fits, part-more, part-none, part-off}
+use Rattle.termwiz_surface.proofs.ScrolledOff.{AppliesPart, drop-next, part-begins, part-more, part-none}
 use Rattle.termwiz_surface.specs.Touching.{touches}
 use Rattle.termwiz_surface.proofs.surface.Surface.apply_all.Goals as goal
 
@@ -20,18 +19,8 @@ loop-i-init g c = record {
   spare = omega arith;
 }
 
-pub apply-requires : goal.apply-requires
-apply-requires g c =
-    let f : List ℕ → ℕ = measure g.W.Widths.width_of c.args.self.now.widths in
-    let all : List ChangeValue = change_list c.args.list.now in
-    let i : ℕ = c.loop-i.i in
-    let inside : i < length all = omega (arith, c.len-i-end.ensures) in
-    let next = drop-next all i (listed_value c.at.result) inside c.at.ensures in
-    part-fits g.L.LineSink.KEEPS f c.args.self.now all (g.L.LineSink.lines_of c.args.lines.now) (listed_value c.at.result) (drop (i + 1) all) c.loop-i.self (g.L.LineSink.lines_of c.loop-i.lines)
-    (subst (λ (cs : List ChangeValue). AppliesPart g.L.LineSink.KEEPS f c.args.self.now all cs (g.L.LineSink.lines_of c.args.lines.now) c.loop-i.self (g.L.LineSink.lines_of c.loop-i.lines)) next c.loop-i.invariant.part)
-
-pub returns-in_err-apply-clause-kept : goal.returns-in_err-apply-clause-kept
-returns-in_err-apply-clause-kept g c =
+pub returns-in_err-apply-in_default-clause-kept : goal.returns-in_err-apply-in_default-clause-kept
+returns-in_err-apply-in_default-clause-kept g c =
     let f : List ℕ → ℕ = measure g.W.Widths.width_of c.args.self.now.widths in
     let all : List ChangeValue = change_list c.args.list.now in
     let i : ℕ = c.loop-i.i in
@@ -43,8 +32,8 @@ returns-in_err-apply-clause-kept g c =
     let inside : i < length all = omega (arith, c.len-i-end.ensures) in
     let next = drop-next all i (listed_value c.at.result) inside c.at.ensures in
     let before : AppliesPart g.L.LineSink.KEEPS f c.args.self.now all (change ∷ left) u s v = subst (λ (cs : List ChangeValue). AppliesPart g.L.LineSink.KEEPS f c.args.self.now all cs u s v) next c.loop-i.invariant.part in
-    let begins = subst (λ (w : _). IsTrue g.L.LineSink.KEEPS → BeginsRows s.width (left_step (measure g.W.Widths.width_of w) (screen_of s) (kept_of s) change) v (g.L.LineSink.lines_of c.apply.new.lines)) before.frame.widths c.in_err-apply.ensures.kept in
-    on_err _ (part-begins g.L.LineSink.KEEPS f c.args.self.now all u change left s v before (g.L.LineSink.lines_of c.apply.new.lines) begins)
+    let begins = subst (λ (w : _). IsTrue g.L.LineSink.KEEPS → BeginsRows s.width (left_step (measure g.W.Widths.width_of w) (screen_of s) (kept_of s) change) v (g.L.LineSink.lines_of c.apply-in-loop-i.new.lines)) before.frame.widths c.in_err-apply-in_default.ensures.kept in
+    on_err _ (part-begins g.L.LineSink.KEEPS f c.args.self.now all u change left s v before (g.L.LineSink.lines_of c.apply-in-loop-i.new.lines) begins)
 
 pub loop-i-preserved : goal.loop-i-preserved
 loop-i-preserved g c =
@@ -59,26 +48,10 @@ loop-i-preserved g c =
     let inside : i < length all = omega (arith, c.len-i-end.ensures) in
     let next = drop-next all i (listed_value c.at.result) inside c.at.ensures in
     let before : AppliesPart g.L.LineSink.KEEPS f c.args.self.now all (change ∷ left) u s v = subst (λ (cs : List ChangeValue). AppliesPart g.L.LineSink.KEEPS f c.args.self.now all cs u s v) next c.loop-i.invariant.part in
-    let becomes = subst (λ (w : _). Becomes s (step (measure g.W.Widths.width_of w) (screen_of s) change) (step_kept (measure g.W.Widths.width_of w) (screen_of s) (kept_of s) change) (touches (measure g.W.Widths.width_of w) (screen_of s) change) c.apply.new.self) before.frame.widths c.in_ok-apply.ensures.ok in
-    let off = subst (λ (w : _). IsTrue g.L.LineSink.KEEPS → ScrollsOff s.width (left_step (measure g.W.Widths.width_of w) (screen_of s) (kept_of s) change) v (g.L.LineSink.lines_of c.apply.new.lines)) before.frame.widths c.in_ok-apply.ensures.scrolls in
+    let becomes = subst (λ (w : _). Becomes s (step (measure g.W.Widths.width_of w) (screen_of s) change) (step_kept (measure g.W.Widths.width_of w) (screen_of s) (kept_of s) change) (touches (measure g.W.Widths.width_of w) (screen_of s) change) c.apply-in-loop-i.new.self) before.frame.widths c.in_ok-apply-in_default.ensures.ok in
+    let off = subst (λ (w : _). IsTrue g.L.LineSink.KEEPS → ScrollsOff s.width (left_step (measure g.W.Widths.width_of w) (screen_of s) (kept_of s) change) v (g.L.LineSink.lines_of c.apply-in-loop-i.new.lines)) before.frame.widths c.in_ok-apply-in_default.ensures.scrolls in
     record {
-      part = part-more g.L.LineSink.KEEPS f c.args.self.now all u change left s v before c.apply.new.self (g.L.LineSink.lines_of c.apply.new.lines) becomes off;
+      part = part-more g.L.LineSink.KEEPS f c.args.self.now all u change left s v before c.apply-in-loop-i.new.self (g.L.LineSink.lines_of c.apply-in-loop-i.new.lines) becomes off;
       none = λ e. absurd (omega arith);
-      spare = omega (arith, c.loop-i.invariant.spare, c.apply.ensures.spare);
+      spare = omega (arith, c.loop-i.invariant.spare, c.apply-in-loop-i.ensures.spare);
     }
-
-pub returns-clause-ok : goal.returns-clause-ok
-returns-clause-ok g c =
-    let f : List ℕ → ℕ = measure g.W.Widths.width_of c.args.self.now.widths in
-    let all : List ChangeValue = change_list c.args.list.now in
-    let none_left : drop c.loop-i.i (change_list c.args.list.now) ≡ [] = drop_all c.loop-i.i (change_list c.args.list.now) (omega (arith, c.len-i-end.ensures)) in
-    part-all g.L.LineSink.KEEPS f c.args.self.now all (g.L.LineSink.lines_of c.args.lines.now) c.loop-i.self (g.L.LineSink.lines_of c.loop-i.lines)
-    (subst (λ (cs : List ChangeValue). AppliesPart g.L.LineSink.KEEPS f c.args.self.now all cs (g.L.LineSink.lines_of c.args.lines.now) c.loop-i.self (g.L.LineSink.lines_of c.loop-i.lines)) none_left c.loop-i.invariant.part)
-
-pub returns-clause-scrolls : goal.returns-clause-scrolls
-returns-clause-scrolls g c =
-    let f : List ℕ → ℕ = measure g.W.Widths.width_of c.args.self.now.widths in
-    let all : List ChangeValue = change_list c.args.list.now in
-    let none_left : drop c.loop-i.i (change_list c.args.list.now) ≡ [] = drop_all c.loop-i.i (change_list c.args.list.now) (omega (arith, c.len-i-end.ensures)) in
-    part-off g.L.LineSink.KEEPS f c.args.self.now all (g.L.LineSink.lines_of c.args.lines.now) c.loop-i.self (g.L.LineSink.lines_of c.loop-i.lines)
-    (subst (λ (cs : List ChangeValue). AppliesPart g.L.LineSink.KEEPS f c.args.self.now all cs (g.L.LineSink.lines_of c.args.lines.now) c.loop-i.self (g.L.LineSink.lines_of c.loop-i.lines)) none_left c.loop-i.invariant.part)

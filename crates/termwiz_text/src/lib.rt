@@ -224,6 +224,7 @@ fn count_plain(bytes: &[u8], limit: usize) -> usize
 /// The run may be empty. It is shorter than `limit` only where the rest is empty, begins with
 /// another character, or begins with printable ASCII directly before a character that may be a mark
 /// on it: one that isn't ASCII, and for which neither `is_letter` nor `is_narrow` holds.
+#[inline(always)]
 pub fn split_plain_run(text: &str, limit: usize) -> (&str, &str)
     ensures { plain.IsPlainRun text.now limit result.0.now result.1.now }
 {

@@ -5,30 +5,38 @@ use super::Hyperlink;
 use std::alloc::{AllocError, Global};
 use std::rc::Rc;
 
-/// Makes copies of links. Links that come one after another and are equal get one copy, which they
-/// share.
+/// How many copies are remembered.
+const MOST: usize = 8;
+
+/// Makes copies of links. Equal links get one copy, which they share, unless eight others were
+/// copied in between.
 #[derive(Drop, Debug)]
 pub struct LinkCopies {
-    last: Option<Rc<Hyperlink>>,
+    made: [Option<Rc<Hyperlink>>; MOST],
+    count: usize, // of all copies, the place of the next one
 }
 
 impl LinkCopies {
     /// It has made none.
     pub fn new() -> LinkCopies {
-        LinkCopies { last: None }
+        LinkCopies {
+            made: [None, None, None, None, None, None, None, None],
+            count: 0,
+        }
     }
 
     /// A copy of a link.
     pub fn copy(&mut self, alloc: Global, link: &Hyperlink) -> Result<Rc<Hyperlink>, AllocError>
         ensures { IfOk result (λ copy. copy.value ≡ link.now) }
     {
-        if let Some(last) = &self.last {
-            if **last == *link {
-                return last.clone();
+        for made in self.made.iter().flatten() {
+            if **made == *link {
+                return made.clone();
             }
         }
         let copy = Rc::new(alloc, link.clone()?)?;
-        self.last = Some(copy.clone()?);
+        self.made[self.count % MOST] = Some(copy.clone()?);
+        self.count = self.count.wrapping_add(1);
         Ok(copy)
     }
 }

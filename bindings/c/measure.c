@@ -10,6 +10,7 @@
  *     measure quiet COUNT     the line of plain, which isn't logged
  *     measure kept COUNT      the same, and what scrolls off is kept in a list of lines
  *     measure full COUNT      the same, where the oldest line goes for each new one after 100
+ *     measure links COUNT     a row with one of two links in turn, of which copies are kept
  *
  * The program keeps no time: run it under callgrind at two counts, and take the difference. Beside
  * `plain` of the bench stands the first. */
@@ -63,6 +64,23 @@ static tk_status kept(tk_handle *surface, long count, size_t *result) {
 
 static tk_status full(tk_handle *surface, long count, size_t *result) {
     return keep(surface, count, 123, result); /* when 100 lines have scrolled off */
+}
+
+/* A list of lines shares no memory with a surface, and keeps one copy of either link. */
+static tk_status links(tk_handle *surface, long count, size_t *result) {
+    tk_handle lines = TK_NONE;
+    tk_status status = tk_lines_new(&lines);
+    for (int x = 0; x < 80 && status == TK_DONE; x++) {
+        status = tk_set_link(surface, x % 2 == 0 ? "http://a/" : "http://b/", 9);
+        if (status == TK_DONE)
+            status = print(surface, "x");
+    }
+    for (long i = 0; i < count && status == TK_DONE; i++)
+        status = tk_lines_push_row(&lines, surface, 0);
+    if (status == TK_DONE)
+        status = tk_lines_count(&lines, result);
+    tk_free(&lines);
+    return status;
 }
 
 /* One of ten colours for every 8 columns. */
@@ -163,12 +181,12 @@ int main(int words, char **word) {
         workload *run;
     } all[] = {{"plain", plain}, {"answer", answer}, {"delta", delta}, {"logged", logged},
                {"cells", cells}, {"rows", rows},     {"quiet", quiet}, {"unlogged", unlogged},
-               {"kept", kept},   {"full", full}};
+               {"kept", kept},   {"full", full},     {"links", links}};
     size_t which = 0, kinds = sizeof all / sizeof *all;
     while (words == 3 && which < kinds && strcmp(word[1], all[which].name) != 0)
         which++;
     if (words != 3 || which == kinds) {
-        fputs("usage: measure plain|answer|delta|logged|unlogged|cells|rows|quiet|kept|full "
+        fputs("usage: measure plain|answer|delta|logged|unlogged|cells|rows|quiet|kept|full|links "
               "COUNT\n",
               stderr);
         return 2;

@@ -100,6 +100,28 @@ static void test_prints(void) {
     tk_free(&surface);
 }
 
+/* Texts that are longer than the block that is tested at once. */
+static void test_long_texts(void) {
+    static const size_t lens[] = {63, 64, 65, 128, 130};
+    tk_handle surface = made(4, 2);
+    char text[130];
+    for (size_t i = 0; i < sizeof lens / sizeof *lens; i++) {
+        for (size_t at = 0; at < lens[i]; at++) {
+            memset(text, 'x', sizeof text);
+            text[at] = '\x80';
+            CHECK(tk_print(&surface, text, lens[i]) == TK_UNREADABLE);
+        }
+        text[lens[i] - 1] = '\xe3'; /* cut after its first byte */
+        CHECK(tk_print(&surface, text, lens[i]) == TK_UNREADABLE);
+    }
+    CHECK(number_is(&surface, 0));
+    for (size_t at = 0; at < 129; at += 3)
+        memcpy(text + at, "か", 3);
+    CHECK(tk_print(&surface, text, 129) == TK_DONE);
+    CHECK(screen_is(&surface, "かか\nか\n"));
+    tk_free(&surface);
+}
+
 static void test_moves(void) {
     tk_handle surface = made(10, 4), none = TK_NONE;
     CHECK(tk_move_to(&surface, 3, 2) == TK_DONE);
@@ -799,6 +821,7 @@ int main(void) {
     test_surfaces();
     test_sizes();
     test_prints();
+    test_long_texts();
     test_moves();
     test_whole_pen();
     test_pen_ranges();

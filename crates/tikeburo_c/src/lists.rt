@@ -11,6 +11,7 @@ ghost use Rattle.tikeburo_c.specs.declared.failure.Failure.TheVariants.{Memory, 
 use crate::failure::Failure;
 use crate::fields::{AttributeFields, ColorFields, attributes_in, color_in, in_range};
 use crate::reading::visibility_of;
+use simdutf8::basic::from_utf8;
 use std::alloc::Global;
 use std::rc::Rc;
 use termwiz_surface::cell::{Blink, Intensity, Underline};
@@ -109,7 +110,7 @@ pub(crate) fn text_in(bytes: &[u8]) -> Result<&str, Failure>
     ensures found { IfOk result (λ text. listed.readable_text bytes.now ≡ Ok text.now) }
     ensures missing { IfErr result (λ failure. listed.readable_text bytes.now ≡ Err failure) }
 {
-    match str::from_utf8(bytes) {
+    match from_utf8(bytes) {
         Ok(text) => Ok(text),
         Err(_) => Err(Failure::Unreadable),
     }
@@ -182,7 +183,7 @@ pub(crate) fn pen_in(
     linked_pen_in(alloc, fields, text)
 }
 
-fn color_of(fields: &ColorFields) -> Result<ColorAttribute, Failure>
+pub(crate) fn color_of(fields: &ColorFields) -> Result<ColorAttribute, Failure>
     ensures found { IfOk result (λ color. colors.color_in fields.now ≡ Some color) }
     ensures missing { IfErr result (λ failure.
         (failure ≡ Range) × (colors.color_in fields.now ≡ None)) }
@@ -294,8 +295,8 @@ pub(crate) fn change_in(
     }
 }
 
-// Appends the change that `change_in` returns: a text or a pen without that call, since most are
-// one.
+// Appends the change that `change_in` returns: a text, a pen or a colour of texts without that
+// call, since most are one.
 #[inline(always)]
 fn push_change(
     alloc: Global,
@@ -318,6 +319,10 @@ fn push_change(
         Kind::Pen => {
             let pen = pen_in(alloc, fields, text)?;
             changes.push(Change::AllAttributes(pen))?;
+        }
+        Kind::Foreground => {
+            let color = color_of(&fields.attributes.foreground)?;
+            changes.push(Change::Attribute(AttributeChange::Foreground(color)))?;
         }
         _ => {
             let change = change_in(alloc, kind, fields, text)?;

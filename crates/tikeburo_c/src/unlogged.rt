@@ -5,11 +5,12 @@ ghost use Rattle.tikeburo_c.specs.Lists as listed;
 ghost use Rattle.tikeburo_c.specs.declared.failure.Failure.TheVariants.{Memory};
 
 use crate::failure::Failure;
-use crate::lists::{ChangeFields, Kind, change_in, kind_in, pen_in, text_in, text_len};
+use crate::lists::{ChangeFields, Kind, change_in, color_of, kind_in, pen_in, text_in, text_len};
 use std::alloc::Global;
-use termwiz_surface::{Change, LentChange};
+use termwiz_surface::{AttributeChange, Change, LentChange};
 
-// A change that borrows the text that it prints or the title that it sets.
+// A change that borrows the text that it prints or the title that it sets. Texts, pens and colours
+// of texts are the most frequent, and take no call of `change_in`.
 fn lent_in<'a>(
     alloc: Global,
     kind: Kind,
@@ -27,6 +28,10 @@ fn lent_in<'a>(
         Kind::Pen => {
             let pen = pen_in(alloc, fields, text)?;
             Ok(LentChange::Owned(Change::AllAttributes(pen)))
+        }
+        Kind::Foreground => {
+            let color = color_of(&fields.attributes.foreground)?;
+            Ok(LentChange::Owned(Change::Attribute(AttributeChange::Foreground(color))))
         }
         _ => Ok(LentChange::Owned(change_in(alloc, kind, fields, text)?)),
     }

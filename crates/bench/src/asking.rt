@@ -24,10 +24,16 @@ pub fn asked(alloc: Global, start: Start, due: usize, size: Option<u16>, count: 
     let seq = surface.current_seqno().saturating_sub(due);
     let mut entries = 0usize;
     for _ in 0..count {
-        let (_, changes) = surface.get_changes(seq)?;
-        entries = entries.wrapping_add(changes.as_slice().len());
+        entries = entries.wrapping_add(reply_len(&surface, seq)?);
     }
     Ok(entries)
+}
+
+// How many entries a reply has. It is kept out of line, since each reply is the same.
+#[inline(never)]
+fn reply_len(surface: &Screen, seq: SequenceNo) -> Sum {
+    let (_, changes) = surface.get_changes(seq)?;
+    Ok(changes.as_slice().len())
 }
 
 /// Makes one of these `count` times, and returns how many changes or columns they have.

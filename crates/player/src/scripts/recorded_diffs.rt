@@ -2,9 +2,9 @@
 //! and `b`; `a LINE` and `b LINE` make the changes of a script's line. After `> ` stand
 //! `diff_screens` and two names, `diff_region X Y WIDTH HEIGHT OTHER_X OTHER_Y`, whose answers are
 //! changes as the program prints them, and `draw X Y`, of which the program shows the first one.
-use playing::surfaces::sizes::checked_size;
 use playing::error::PlayError;
 use playing::play::Play;
+use playing::surfaces::sizes::checked_size;
 use playing::turn::Turn;
 use sessions::printed::Printed;
 use sessions::view::script::{Events, read};

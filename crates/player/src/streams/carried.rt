@@ -1,7 +1,7 @@
 //! Screens that are carried to a viewer by the bytes of a repaint.
 use crate::streams::given::{note_change, paint, sent, size_of};
-use playing::surfaces::measure::Measure;
 use playing::error::PlayError;
+use playing::surfaces::measure::Measure;
 use playing::turn::Turn;
 use termwiz_cell::change::{Change, Position};
 use termwiz_cell::emoji::{OneColumn, UnicodeWidths, Widths};

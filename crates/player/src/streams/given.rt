@@ -1,9 +1,9 @@
 //! What the words of a line give, and what a surface shows.
 ghost use Rattle.std.specs.Prelude.{◌<◌, ◌^◌};
 
+use playing::error::PlayError;
 use playing::surfaces::answers;
 use playing::surfaces::sizes::checked_size;
-use playing::error::PlayError;
 use playing::turn::Turn;
 use termwiz_cell::change::Change;
 use termwiz_cell::emoji::{UnicodeWidths, Widths};
